@@ -1,0 +1,21 @@
+-- Laws that the proofs cite; those that other crates cite are public.
+-- sums and products commute
+pub mod Commute
+-- what it is that a promise leaves one answer
+pub mod Only
+-- the sign bit, NaNs and words
+pub mod Nan
+pub mod SignBit
+-- the square root
+mod Squares
+mod Newton
+mod OneDivision
+mod Rounded
+mod NearUnits
+mod Patterns
+mod Ends
+pub mod Nearest
+pub mod RootIsNearest
+-- this crate's promises leave one answer each, and its values of document 01
+mod OneAnswer
+mod Values

@@ -1,0 +1,143 @@
+-- The root of n units, by its parts: where n is R * 4 ^ k, and r is the whole number nearest to √R, of as many digits as the format keeps, it is r * 2 ^ k units. Assumes nothing.
+use mathlib.Core.Path.{_≡_, refl, sym, ap, _∙_, subst}
+use mathlib.Core.Logic.{_⊎_, inl, inr}
+use Prim.Native.Nat.{ℕ, zero, suc, _+_, _-_, _*_, _/_, _^_, _≤_, _<_, compare, Ordering, Ordering·lt, Ordering·eq, Ordering·gt}
+use native.Mathlib.Nat.{add-mul, mul-add, mul-assoc, mul-comm, mul-left-comm, mul-mul-mul-comm, mul-le-mul, mul-le-mul-right, mul-pos, mul-lt-mul-of-pos-right, lt-of-not-le, not-le-of-lt, lt-of-lt-of-le, lt-of-le-of-lt, le-trans, le-of-eq, le-of-lt, le-antisymm, le-of-suc-le-suc, lt-irrefl, pow-succ', mul-one, le-div-iff-mul-le, div-lt-iff-lt-mul}
+use native.Mathlib.Omega.{arith}
+use native.Mathlib.Decide.{decLe}
+use mathlib.Core.Bool.{Bool, true, false, not, cond}
+use lib.Dec.{T, isLe, isEq, leb→le, nleb→lt, eqb→eq, le→leb}
+use lib.Arith.{lt→nleb}
+use lib.Pow.{pow-add, pow-mono, pow-pos}
+use lib.Ieee.{Float, Format, prec, size, nearest, units}
+use lib.Ieee.Digits.{size-lt, size-le}
+use lib.Ieee.Fits.{two, two-le-pos}
+use Rattle.real.specs.Root.{wholeRoot, root}
+use Rattle.real.proofs.Squares.{square-lt, square-suc, square-middle, IsRoot, wholeRoot-is}
+
+-- ---- which way `nearest` goes
+nearest-lt : (q a b : ℕ) → a < b → nearest q (compare a b) ≡ q
+nearest-lt q a b h = go (compare a b) (nleb→lt a b) (eqb→eq a b)
+  where
+    go : (o : Ordering) → (T (not (isLe o)) → b < a) → (T (isEq o) → a ≡ b) → nearest q o ≡ q
+    go Ordering·lt g e = refl
+    go Ordering·eq g e = absurd (lt-irrefl b (subst (λ (x : ℕ). x < b) (e tt) h))
+    go Ordering·gt g e = absurd (not-le-of-lt (g tt) (le-of-lt h))
+
+nearest-gt : (q a b : ℕ) → b < a → nearest q (compare a b) ≡ suc q
+nearest-gt q a b h = go (compare a b) (leb→le a b)
+  where
+    go : (o : Ordering) → (T (isLe o) → a ≤ b) → nearest q o ≡ suc q
+    go Ordering·lt l = absurd (not-le-of-lt h (l tt))
+    go Ordering·eq l = absurd (not-le-of-lt h (l tt))
+    go Ordering·gt l = refl
+
+-- ---- the digits that are kept
+pub pow-lt-back : (i p : ℕ) → 2 ^ i < 2 ^ p → i < p
+pow-lt-back i p h = lt-of-not-le (λ (g : p ≤ i). lt-irrefl (2 ^ i) (lt-of-lt-of-le h (pow-mono g)))
+
+dropped : (z p k : ℕ) → 0 < p → z ≤ p + k → p - 1 + k < z → z - p ≡ k
+dropped z p k P a b = omega arith
+
+pub kept-size : (p k w : ℕ) → 0 < p → 2 ^ (p - 1) * 2 ^ k ≤ w → w < 2 ^ p * 2 ^ k → size w - p ≡ k
+kept-size p k w P lo hi =
+    dropped (size w) p k P (size-le w (p + k) (subst (λ (x : ℕ). w < x) (sym (pow-add 2 p k)) hi))
+    (pow-lt-back (p - 1 + k) (size w) (lt-of-le-of-lt (le-trans (le-of-eq (pow-add 2 (p - 1) k)) lo) (size-lt w)))
+
+scaled : (a u : ℕ) → a * u * (a * u) ≡ a * a * (u * u)
+scaled a u = mul-mul-mul-comm a u a u
+
+-- the root of R * (u * u) begins with the root of R
+kept-quotient : (R u q w : ℕ) → 0 < u → IsRoot R q → IsRoot (R * (u * u)) w → (q * u ≤ w) × (w < (q + 1) * u)
+kept-quotient R u q w U h k = (
+  le-of-suc-le-suc (subst (λ (x : ℕ). q * u < x) (one w) (square-lt (q * u) (w + 1) (lt-of-le-of-lt (le-trans (le-of-eq (scaled q u)) (mul-le-mul-right (u * u) (h .0))) (k .1)))),
+  square-lt w ((q + 1) * u) (lt-of-le-of-lt (k .0) (lt-of-lt-of-le (mul-lt-mul-of-pos-right (h .1) (mul-pos U U)) (le-of-eq (sym (scaled (q + 1) u))))),
+)
+  where
+    one : (n : ℕ) → n + 1 ≡ suc n
+    one n = omega arith
+
+quotient : (q u w : ℕ) → 0 < u → q * u ≤ w → w < (q + 1) * u → w / u ≡ q
+quotient q u w U lo hi = le-antisymm (le-of-suc-le-suc (subst (λ (x : ℕ). w / u < x) (one q) (div-lt-iff-lt-mul U .1 hi))) (le-div-iff-mul-le U .1 lo)
+  where
+    one : (n : ℕ) → n + 1 ≡ suc n
+    one n = omega arith
+
+-- ---- `root`, from its k and its q on
+abbrev from : Format → ℕ → ℕ → ℕ → Float
+from f n k q = units f false (nearest q (compare (4 * n) ((2 * q + 1) * 2 ^ k * ((2 * q + 1) * 2 ^ k)))) k
+
+root-is : (f : Format) (n : ℕ) → root f n ≡ from f n (size (wholeRoot n) - prec f) (wholeRoot n / 2 ^ (size (wholeRoot n) - prec f))
+unfolding root
+root-is f n = refl
+
+-- 2 ^ (p - 1) ≤ q < 2 ^ p, for the whole root q of an R from 4 ^ (p - 1) up and below 4 ^ p
+digits-of : (R q h t : ℕ) → IsRoot R q → h * h ≤ R → R < t * t → (h ≤ q) × (q < t)
+digits-of R q h t i lo hi = (
+  le-of-suc-le-suc (subst (λ (x : ℕ). h < x) (one q) (square-lt h (q + 1) (lt-of-le-of-lt lo (i .1)))),
+  square-lt q t (lt-of-le-of-lt (i .0) hi),
+)
+  where
+    one : (n : ℕ) → n + 1 ≡ suc n
+    one n = omega arith
+
+module _ (f : Format) (R k : ℕ) (lo : 2 ^ (prec f - 1) * 2 ^ (prec f - 1) ≤ R) (hi : R < 2 ^ prec f * 2 ^ prec f) where
+  by-whole : (q : ℕ) → IsRoot R q → root f (R * (2 ^ k * 2 ^ k)) ≡ from f (R * (2 ^ k * 2 ^ k)) k q
+  by-whole q i =
+      let u = 2 ^ k in
+      let n = R * (u * u) in
+      let w = wholeRoot n in
+      let d = digits-of R q (2 ^ (prec f - 1)) (2 ^ prec f) i lo hi in
+      let b = kept-quotient R u q w (pow-pos k) i (wholeRoot-is n) in
+      let z : size w - prec f ≡ k =
+      kept-size (prec f) k w (two-le-pos (prec f) (two f)) (le-trans (mul-le-mul-right u (d .0)) (b .0)) (lt-of-lt-of-le (b .1) (mul-le-mul-right u (subst (λ (x : ℕ). x ≤ 2 ^ prec f) (one q) (d .1)))) in
+      root-is f n
+      ∙ ap (λ (x : ℕ). from f n x (w / 2 ^ x)) z
+      ∙ ap (λ (x : ℕ). from f n k x) (quotient q u w (pow-pos k) (b .0) (b .1))
+    where
+      one : (n : ℕ) → suc n ≡ n + 1
+      one n = omega arith
+
+  four-out : (q : ℕ) → 4 * (R * (2 ^ k * 2 ^ k)) ≡ 4 * R * (2 ^ k * 2 ^ k)
+  four-out q = sym (mul-assoc 4 R (2 ^ k * 2 ^ k))
+
+  stays : (q : ℕ) → R ≤ q * q + q → from f (R * (2 ^ k * 2 ^ k)) k q ≡ units f false q k
+  stays q h =
+      ap (λ (x : ℕ). units f false x k)
+      (nearest-lt q (4 * (R * (2 ^ k * 2 ^ k))) ((2 * q + 1) * 2 ^ k * ((2 * q + 1) * 2 ^ k))
+      (lt-of-le-of-lt (le-of-eq (four-out q)) (lt-of-lt-of-le (mul-lt-mul-of-pos-right less (mul-pos (pow-pos k) (pow-pos k))) (le-of-eq (sym (scaled (2 * q + 1) (2 ^ k)))))))
+    where
+      less : 4 * R < (2 * q + 1) * (2 * q + 1)
+      less = omega (arith, square-middle q)
+
+  moves : (q : ℕ) → q * q + q < R → from f (R * (2 ^ k * 2 ^ k)) k q ≡ units f false (suc q) k
+  moves q h =
+      ap (λ (x : ℕ). units f false x k)
+      (nearest-gt q (4 * (R * (2 ^ k * 2 ^ k))) ((2 * q + 1) * 2 ^ k * ((2 * q + 1) * 2 ^ k))
+      (lt-of-le-of-lt (le-of-eq (scaled (2 * q + 1) (2 ^ k))) (lt-of-lt-of-le (mul-lt-mul-of-pos-right more (mul-pos (pow-pos k) (pow-pos k))) (le-of-eq (sym (four-out q))))))
+    where
+      more : (2 * q + 1) * (2 * q + 1) < 4 * R
+      more = omega (arith, square-middle q)
+
+  -- r is the whole number nearest to √R: r - 1/2 < √R < r + 1/2
+  pub root-near : (r : ℕ) → r * r < R + r → R ≤ r * r + r → root f (R * (2 ^ k * 2 ^ k)) ≡ units f false r k
+  root-near r a b = go (decLe (r * r) R)
+    where
+      low : (q : ℕ) → R < suc q * suc q → suc q * suc q < R + suc q → units f false (suc q) k ≡ units f false (suc q) k → root f (R * (2 ^ k * 2 ^ k)) ≡ units f false (suc q) k
+      low q s t e =
+          let up : suc q * suc q ≡ q * q + 2 * q + 1 = ap (λ (x : ℕ). x * x) (one q) ∙ square-suc q in
+          by-whole q (omega arith, subst (λ (x : ℕ). R < x * x) (one q) s) ∙ moves q (omega arith)
+        where
+          one : (n : ℕ) → suc n ≡ n + 1
+          one n = omega arith
+
+      down : (r : ℕ) → R < r * r → r * r < R + r → root f (R * (2 ^ k * 2 ^ k)) ≡ units f false r k
+      down zero s t = absurd (none s)
+        where
+          none : R < 0 → ⊥
+          none g = omega arith
+      down (suc q) s t = low q s t refl
+
+      go : Dec (r * r ≤ R) → root f (R * (2 ^ k * 2 ^ k)) ≡ units f false r k
+      go (yes h) = by-whole r (h, omega (arith, square-suc r)) ∙ stays r b
+      go (no g) = down r (lt-of-not-le g) a

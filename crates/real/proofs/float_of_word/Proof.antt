@@ -1,0 +1,20 @@
+-- `real::float_of_word` meets its contract. Assumes nothing.
+use mathlib.Core.Path.{_≡_, sym, _∙_}
+use lib.Ieee.{div, ofBits}
+use borrow.Author.Needs.{needs}
+use Rattle.real.proofs.Nan.{above-is-nan, rest-is-not}
+use Rattle.real.proofs.float_of_word.Statement.{statement}
+use Rattle.real.proofs.float_of_word.Tie as tie
+
+returns : tie.Need-returns
+unfolding div ofBits
+returns c = sym (above-is-nan (c .before .args .w) (c .if1 .taken))
+
+float-from-bits-result : tie.Need-float-from-bits-result
+float-from-bits-result c = rest-is-not (c .before .args .w) (c .if1 .left)
+
+returns-2 : tie.Need-returns-2
+returns-2 c = search needs
+
+pub float-of-word-spec : {M : Type 1} → statement M
+float-of-word-spec = tie.close (tie.spec returns float-from-bits-result returns-2)

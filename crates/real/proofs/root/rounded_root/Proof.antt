@@ -1,0 +1,35 @@
+use borrow.Author.Needs.{needs}
+use Prim.Native.Nat.{ℕ, _*_, _^_}
+use native.Mathlib.Omega.{arith}
+use Rattle.real.proofs.Rounded.{moves, stays, no-carry}
+use Rattle.real.proofs.root.rounded_root.Statement.{statement}
+use Rattle.real.proofs.root.rounded_root.Tie as tie
+
+whole-root-requires : tie.Need-whole-root-requires
+whole-root-requires c κs = search needs
+
+add-result : tie.Need-add-result
+add-result c = search needs
+
+returns : tie.Need-returns
+returns c =
+    let at = c .before .before .before in
+    let a = at .before .args .a in
+    let q = at .whole-root .result .q in
+    let rest = at .whole-root .result .rest in
+    let w = at .whole-root .ensures in
+    let m = moves (a * 2 ^ 52) q rest (w .0) (w .1) (c .before .if1 .taken) in
+    (m .0, m .1, no-carry a q rest (w .0) (c .before .if1 .taken) (w .2) (at .before .pre .1))
+
+returns-2 : tie.Need-returns-2
+returns-2 c =
+    let at = c .before .before in
+    let a = at .before .args .a in
+    let q = at .whole-root .result .q in
+    let rest = at .whole-root .result .rest in
+    let w = at .whole-root .ensures in
+    let m = stays (a * 2 ^ 52) q rest (w .0) (omega arith) (c .if1 .left) in
+    (m .0, m .1, w .2)
+
+pub rounded-root-spec : {M : Type 1} → statement M
+rounded-root-spec = tie.close (tie.spec whole-root-requires add-result returns returns-2)

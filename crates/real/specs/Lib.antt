@@ -1,0 +1,6 @@
+-- What the contracts of every crate are written with. Definitions only.
+pub mod Operations
+pub mod Sign
+pub mod Root
+pub mod Nearest
+pub mod Algebra
