@@ -3,4 +3,3 @@ pub mod Operations
 pub mod Sign
 pub mod Root
 pub mod Nearest
-pub mod Algebra

@@ -3,7 +3,6 @@ use lib.Ieee.{Float, binary64, add, sub, mul, div, ofBits}
 
 infixl 60 _⊕_ _⊖_
 infixl 70 _⊗_ _⊘_
-
 -- a + b
 abbrev pub _⊕_ : Float → Float → Float
 _⊕_ = add binary64

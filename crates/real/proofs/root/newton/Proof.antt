@@ -3,7 +3,7 @@ use mathlib.Core.Path.{_≡_}
 use Prim.Native.Nat.{ℕ, _+_, _*_, _^_, _≤_, _<_}
 use native.Mathlib.Nat.{le-trans, le-of-lt, mul-le-mul, div-le-self}
 use native.Mathlib.Omega.{arith}
-use Rattle.real.proofs.Newton.{newton-above, newton-below, sq-pos}
+use Rattle.real.proofs.Newton.{newton-above, newton-below, square-pos}
 use Rattle.real.proofs.root.newton.Statement.{statement}
 use Rattle.real.proofs.root.newton.Tie as tie
 
@@ -20,7 +20,7 @@ mul-loop : tie.Need-mul-loop Inv-loop μ-loop
 mul-loop c = omega (arith, mul-le-mul (c .loop .inv .1) (c .loop .inv .1))
 
 div-s : tie.Need-div-s Inv-loop μ-loop
-div-s c = sq-pos (c .before .before .args .a) (c .before .loop .s) (c .loop-test .taken)
+div-s c = square-pos (c .before .before .args .a) (c .before .loop .s) (c .loop-test .taken)
 
 add-s : tie.Need-add-s Inv-loop μ-loop
 add-s c = omega (arith, div-le-self (c .before .before .args .a) (c .before .loop .s))
@@ -33,7 +33,7 @@ loop-again c =
     let a = c .before .before .args .a in
     let s = c .before .loop .s in
     let above = c .loop-test .taken in
-    (newton-above a s (sq-pos a s above), le-trans (le-of-lt (newton-below a s above)) (c .before .loop .inv .1))
+    (newton-above a s (square-pos a s above), le-trans (le-of-lt (newton-below a s above)) (c .before .loop .inv .1))
 
 returns : tie.Need-returns Inv-loop μ-loop
 returns c = (c .loop-test .left, c .before .loop .inv .0)

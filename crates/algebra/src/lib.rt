@@ -1,0 +1,26 @@
+// What the five record types share: their operations, their layout in flat floats and counted loops (see specs/), and document 01's
+// numbers for refusals.
+
+// n above 32.
+pub const TOO_LARGE: u32 = 1;
+
+// A lent length is not the one wanted.
+pub const WRONG_LENGTH: u32 = 2;
+
+// Jacobi with n = 0.
+pub const EMPTY: u32 = 3;
+
+// A sweep limit above 1,000.
+pub const LIMIT_TOO_LARGE: u32 = 4;
+
+// A powi exponent outside -1,024..1,024.
+pub const EXPONENT_TOO_LARGE: u32 = 5;
+
+// No pivot exceeds zero.
+pub const SINGULAR: u32 = 6;
+
+// A lent order is not a permutation.
+pub const NOT_AN_ORDER: u32 = 7;
+
+// A determinant's swap count does not fit the order.
+pub const WRONG_SWAPS: u32 = 8;
