@@ -7,3 +7,6 @@ mod Odd
 pub mod Places
 -- LU: its columns case by case
 pub mod Lu
+-- the order: permutations and parity
+pub mod Permutation
+pub mod Parity
