@@ -10,3 +10,7 @@ pub mod Lu
 -- the order: permutations and parity
 pub mod Permutation
 pub mod Parity
+-- slopes never steer
+pub mod Slopes
+-- rows of floats are rows of records
+pub mod RowsOfRecords

@@ -132,9 +132,11 @@ bring-ordered d k n b i a p swaps l u o = pick (eq (b .size) float.zero) refl
         let ne = eqb-false (b .row) i e in
         let h : i < b .row = omega arith in
         let s = o .0 .size in
-        rw (bring-moves d k b i a p swaps z ne)
-        (exchange-order n i (b .row) p h u (o .0),
-          exchange-parity i (b .row) p h (omega arith) (o .0 .apart) ∙ ap not (o .1) ∙ sym (ap isOdd (add-one swaps)))
+        rw (bring-moves d k b i a p swaps z ne) (
+          exchange-order n i (b .row) p h u (o .0),
+          exchange-parity i (b .row) p h (omega arith) (o .0 .apart) ∙ ap not (o .1) ∙ sym (ap isOdd (add-one swaps)),
+        )
+
     pick : (t : Bool) → eq (b .size) float.zero ≡ t → Ordered n (bring d k b i a p swaps)
     pick true e = rw (bring-none d k b i a p swaps e) tt
     pick false e = here (eqb (b .row) i) refl e

@@ -70,7 +70,7 @@ exchange-order n p q o h k r =
     record {
       size = length-set (set o p (getD o q 0)) q (getD o p 0) ∙ length-set o p (getD o q 0) ∙ r .size;
       below = exchange-all (λ v. v < n) p q o h (omega arith) (r .below);
-      apart = exchange-distinct p q o h (omega arith) (r .apart)
+      apart = exchange-distinct p q o h (omega arith) (r .apart);
     }
 
 -- ---- 0, 1, .., n - 1
@@ -184,6 +184,7 @@ both false b e = absurd (let z : _≡_ {A = Bool} false true = e in false-true z
     family : Bool → Type 0
     family true = ⊥
     family false = Unit {0}
+
     false-true : false ≡ true → ⊥
     false-true z = subst family z tt
 
@@ -209,6 +210,7 @@ isOrder-order n p h e = record { size = h; below = below p e; apart = apart p e 
     below : (l : List ℕ) → isOrder n l ≡ true → All (λ v. v < n) l
     below [] e = tt
     below (x ∷ l) e = let b = both (ltb x n) (absent x l && isOrder n l) e in (ltb-true x n (b .0), below l (both (absent x l) (isOrder n l) (b .1) .1))
+
     apart : (l : List ℕ) → isOrder n l ≡ true → Distinct l
     apart [] e = tt
     apart (x ∷ l) e =
