@@ -14,3 +14,6 @@ pub mod Parity
 pub mod Slopes
 -- rows of floats are rows of records
 pub mod RowsOfRecords
+-- for the code over a record: its inner loops, and the two ways out of an entry
+pub mod Inner
+pub mod Answers
