@@ -1,2 +1,3 @@
 -- Laws that the crates above cite. Assumes nothing.
 pub mod Loop
+pub mod Flat
