@@ -2,6 +2,8 @@
 // speak of what is read, so these functions are proved safe and no more.
 //
 // A file of answers holds hex words apart by spaces and newlines; a line that starts with # is passed over.
+pub mod records;
+
 use libc::STDOUT_FILENO;
 
 // The bytes at..end of the buffer are still to be read.

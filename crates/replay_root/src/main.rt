@@ -3,11 +3,10 @@ use replay::Place;
 use replay::Tally;
 use replay::Word;
 
-// What is left to read, and the count so far.
+// Where the reader stands, and the count so far.
 struct Run {
     place: Place,
     tally: Tally,
-    more: bool,
 }
 
 // One line.
@@ -16,38 +15,25 @@ fn line(file: i32, buffer: &mut [u8; 4096], run: Run) -> Run {
     let tally = run.tally;
     let x = replay::next_word(file, buffer, start);
     let middle = x.place;
-    if x.digits != 16 {
-        return Run {
-            place: middle,
-            tally,
-            more: false,
-        };
-    }
     let wanted = replay::next_word(file, buffer, middle);
     let place = wanted.place;
     let got = real::word_of_float(real::sqrt(real::float_of_word(x.word)));
-    let tally = replay::counted(tally, got == wanted.word);
-    Run {
-        place,
-        tally,
-        more: true,
-    }
+    let tally = replay::counted(tally, wanted.digits == 16 && got == wanted.word);
+    Run { place, tally }
 }
 
+// The number of cases, and then so many lines.
 fn all(file: i32) -> Tally {
     let mut buffer = [0u8; 4096];
-    let place = replay::start();
+    let count = replay::next_word(file, &mut buffer, replay::start());
+    let place = count.place;
     let tally = Tally {
         compared: 0,
         different: 0,
     };
-    let mut run = Run {
-        place,
-        tally,
-        more: true,
-    };
-    let mut turns = u64::MAX;
-    while turns > 0 && run.more {
+    let mut run = Run { place, tally };
+    let mut turns = count.word;
+    while turns > 0 {
         run = line(file, &mut buffer, run);
         turns -= 1;
     }

@@ -12,6 +12,9 @@ abbrev μ-loop : tie.MeasureT-loop
 start-requires : tie.Need-start-requires Inv-loop μ-loop
 start-requires c κs = search needs
 
+next-word-requires : tie.Need-next-word-requires Inv-loop μ-loop
+next-word-requires c κs = search needs
+
 loop-holds : tie.Need-loop-holds Inv-loop μ-loop
 loop-holds c = search needs
 
@@ -37,6 +40,7 @@ all-spec =
     Inv-loop
     μ-loop
     start-requires
+    next-word-requires
     loop-holds
     line-requires
     sub-turns
