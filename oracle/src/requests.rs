@@ -78,10 +78,13 @@ impl Maker<'_> {
                     Pool::place(self.random, pool::UNIT)
                 }
                 Function::Acosh => self.pool.apt(self.random, |x| x > 1.0),
-                Function::Ln | Function::Log | Function::Log2 | Function::Log10
-                | Function::Powf | Function::Powd | Function::Sqrt => {
-                    self.pool.apt(self.random, |x| x > 0.0)
-                }
+                Function::Ln
+                | Function::Log
+                | Function::Log2
+                | Function::Log10
+                | Function::Powf
+                | Function::Powd
+                | Function::Sqrt => self.pool.apt(self.random, |x| x > 0.0),
                 _ => self.pool.apt(self.random, |_| true),
             },
         }
