@@ -32,13 +32,29 @@ module _ {S : Type 0} where
   pub upto-end : {t : S} (lo hi : ℕ) (f : ℕ → S → S) (s : S) → hi ≤ lo → upto lo hi f s ≡ t → s ≡ t
   upto-end lo hi f s h i = sym (upto-none lo hi f s h) ∙ i
 
--- What carries each turn of one loop to the matching turn of another carries the whole
-module _ {S S′ : Type 0} (h : S → S′) (f : ℕ → S → S) (g : ℕ → S′ → S′) (step : (k : ℕ) (s : S) → h (f k s) ≡ g k (h s)) where
-  pub turns-map : (d k : ℕ) (s : S) → h (turns f d k s) ≡ turns g d k (h s)
+  -- two loops are one where each turn gives the same, as long as P holds, and keeps P
+  turns-same : (P : S → Type 0) (f g : ℕ → S → S) (d k : ℕ) → ((j : ℕ) (s : S) → k ≤ j → j < k + d → P s → (f j s ≡ g j s) × P (g j s)) → (s : S) → P s → turns f d k s ≡ turns g d k s
   unfolding turns
-  turns-map zero k s = refl
-  turns-map (suc d) k s = turns-map d (suc k) (f k s) ∙ ap (turns g d (suc k)) (step k s)
+  turns-same P f g zero k step s p = refl
+  turns-same P f g (suc d) k step s p =
+      let t = step k s (omega arith) (omega arith) p in
+      ap (turns f d (suc k)) (t .0) ∙ turns-same P f g d (suc k) (λ j s′ h h′ p′. step j s′ (omega arith) (omega arith) p′) (g k s) (t .1)
 
-  pub upto-map : (lo hi : ℕ) (s : S) → h (upto lo hi f s) ≡ upto lo hi g (h s)
+  pub upto-same : (P : S → Type 0) (f g : ℕ → S → S) (lo hi : ℕ) → ((j : ℕ) (s : S) → lo ≤ j → j < hi → P s → (f j s ≡ g j s) × P (g j s)) → (s : S) → P s → upto lo hi f s ≡ upto lo hi g s
   unfolding upto
-  upto-map lo hi s = turns-map (hi - lo) lo s
+  upto-same P f g lo hi step s p = turns-same P f g (hi - lo) lo (λ j s′ h h′ p′. step j s′ h (omega arith) p′) s p
+
+-- What carries each turn of one loop to the matching turn of another carries the whole
+module _ {S S′ : Type 0} (h : S → S′) (f : ℕ → S → S) (g : ℕ → S′ → S′) where
+  turns-carry : (d k : ℕ) → ((j : ℕ) (s : S) → k ≤ j → j < k + d → h (f j s) ≡ g j (h s)) → (s : S) → h (turns f d k s) ≡ turns g d k (h s)
+  unfolding turns
+  turns-carry zero k step s = refl
+  turns-carry (suc d) k step s =
+      turns-carry d (suc k) (λ j s′ l u. step j s′ (omega arith) (omega arith)) (f k s) ∙ ap (turns g d (suc k)) (step k s (omega arith) (omega arith))
+
+  pub upto-carry : (lo hi : ℕ) → ((j : ℕ) (s : S) → lo ≤ j → j < hi → h (f j s) ≡ g j (h s)) → (s : S) → h (upto lo hi f s) ≡ upto lo hi g (h s)
+  unfolding upto
+  upto-carry lo hi step s = turns-carry (hi - lo) lo (λ j s′ l u. step j s′ l (omega arith)) s
+
+  pub upto-map : ((k : ℕ) (s : S) → h (f k s) ≡ g k (h s)) → (lo hi : ℕ) (s : S) → h (upto lo hi f s) ≡ upto lo hi g (h s)
+  upto-map step lo hi s = upto-carry lo hi (λ j s′ l u. step j s′) s

@@ -1,4 +1,11 @@
 use borrow.Author.Needs.{needs}
+use native.Mathlib.Nat.{add-zero}
+use native.Mathlib.Omega.{arith}
+use Prim.Native.Nat.{_+_, _*_}
+use lib.Ieee.{nan}
+use denote.Ref.{now}
+use Rattle.real.specs.Operations.{zero}
+use Rattle.algebra.proofs.Inside.{getD-inside}
 use Rattle.dual.proofs.operations.record_at.Statement.{statement}
 use Rattle.dual.proofs.operations.record_at.Tie as tie
 
@@ -24,7 +31,13 @@ shared-slice-read-t11 : tie.Need-shared-slice-read-t11
 shared-slice-read-t11 c = search needs
 
 returns : tie.Need-returns
-returns c = ?
+returns c =
+    let a = c .before .before .args in
+    rw (
+      add-zero (a .p * 2),
+      getD-inside (now (a .floats)) (a .p * 2) zero nan (omega arith),
+      getD-inside (now (a .floats)) (a .p * 2 + 1) zero nan (omega arith),
+    )
 
 pub record-at-spec : {M : Type 1} → statement M
 record-at-spec =
