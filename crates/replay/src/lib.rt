@@ -3,6 +3,7 @@
 //
 // A file of answers holds hex words apart by spaces and newlines; a line that starts with # is passed over.
 pub mod records;
+pub mod tables;
 
 use libc::STDOUT_FILENO;
 
@@ -123,19 +124,23 @@ pub fn next_word(file: i32, buffer: &mut [u8; 4096], place: Place) -> Word {
     }
 }
 
-// One answer more: same or not.
-pub fn counted(t: Tally, same: bool) -> Tally {
-    let compared = std::num::wrapping_add_u64(t.compared, 1);
-    if same {
-        return Tally {
-            compared,
-            different: t.different,
-        };
-    }
+pub fn tally(compared: u64, different: u64) -> Tally {
     Tally {
         compared,
-        different: std::num::wrapping_add_u64(t.different, 1),
+        different,
     }
+}
+
+pub(crate) fn added(a: Tally, b: Tally) -> Tally {
+    tally(
+        std::num::wrapping_add_u64(a.compared, b.compared),
+        std::num::wrapping_add_u64(a.different, b.different),
+    )
+}
+
+// One answer more: same or not.
+pub fn counted(t: Tally, same: bool) -> Tally {
+    added(t, tally(1, if same { 0 } else { 1 }))
 }
 
 // Prints NAME: N compared, M different.

@@ -1,30 +1,41 @@
-// The cases of records-KIND.txt and runs-KIND.txt (oracle/README.md). A case is read into a line of words: the function at 0, records of
-// places from 1, extras from 4, the answer's number at 6, the answer's words from 8.
+// The cases of records-KIND.txt and runs-KIND.txt (oracle/README.md), read and compared. A case is read into a line of words: the function
+// at 0, the number of its records at 1, how many floats they have at 2, extras from 4, the answer's number at 6, the answer's words from 8.
+// The records' parts are read into flat floats.
 use super::Place;
-use derivatives::Function;
+use super::Tally;
+use super::tables;
+use libc::STDOUT_FILENO;
 ghost use Prim.Native.Nat.{_≤_};
 
 pub const FUNCTION: usize = 0;
 
-pub const RECORDS: usize = 1;
+const COUNT: usize = 1;
 
-pub const EXTRAS: usize = 4;
+pub const LENGTH: usize = 2;
 
-pub const NUMBER: usize = 6;
+const EXTRAS: usize = 4;
 
-pub const ANSWER: usize = 8;
+pub const FIRST: usize = 4;
 
-// How many records and extras a function takes, and how many records it answers: none is a whole number.
-pub struct Shape {
-    pub records: usize,
-    pub extras: usize,
-    pub answers: usize,
-}
+pub const SECOND: usize = 5;
 
-// A request by its function number, where that is one.
-pub enum Request {
-    Is(Function),
-    Not,
+const NUMBER: usize = 6;
+
+const ANSWER: usize = 8;
+
+// A run has at most 12 records of at most 8 parts.
+pub const FLOATS: usize = 96;
+
+// Above the count of any run, so that a file out of order is read to its end and no further.
+const LONGEST: u64 = 16;
+
+// How often a function was compared is counted at its number, how often it differs at its number plus this.
+const DIFFERENT: usize = 64;
+
+// An answer: the number that a request is refused by, or 0, and the words.
+pub struct Answer {
+    pub number: u64,
+    pub words: [u64; 16],
 }
 
 // Where the reader stands, and whether a whole case was read.
@@ -33,81 +44,38 @@ pub struct Read {
     pub whole: bool,
 }
 
-// The table of oracle/README.md.
-pub fn shape_of(function: u64) -> Shape {
-    match function {
-        0x01..=0x02 => Shape {
-            records: 0,
-            extras: 0,
-            answers: 1,
-        },
-        0x03 => Shape {
-            records: 0,
-            extras: 0,
-            answers: 0,
-        },
-        0x04 => Shape {
-            records: 0,
-            extras: 1,
-            answers: 1,
-        },
-        0x09..=0x0c | 0x17 => Shape {
-            records: 2,
-            extras: 0,
-            answers: 1,
-        },
-        0x0e..=0x12 => Shape {
-            records: 1,
-            extras: 1,
-            answers: 1,
-        },
-        0x13 => Shape {
-            records: 2,
-            extras: 0,
-            answers: 0,
-        },
-        0x14 => Shape {
-            records: 1,
-            extras: 0,
-            answers: 0,
-        },
-        0x1b..=0x1c | 0x20 | 0x22 | 0x26..=0x27 | 0x29 | 0x2e..=0x30 | 0x34..=0x36 => Shape {
-            records: 1,
-            extras: 2,
-            answers: 1,
-        },
-        0x1d..=0x1f | 0x21 | 0x23..=0x25 | 0x2a..=0x2c | 0x31..=0x33 => Shape {
-            records: 1,
-            extras: 1,
-            answers: 1,
-        },
-        0x28 => Shape {
-            records: 1,
-            extras: 2,
-            answers: 2,
-        },
-        0x2d | 0x38 => Shape {
-            records: 2,
-            extras: 2,
-            answers: 1,
-        },
-        0x37 => Shape {
-            records: 3,
-            extras: 0,
-            answers: 1,
-        },
-        _ => Shape {
-            records: 1,
-            extras: 0,
-            answers: 1,
-        },
-    }
+// How many cases a file says that it has, and where they begin.
+pub struct Head {
+    pub cases: u64,
+    pub place: Place,
 }
 
 fn least(a: usize, b: usize) -> usize
     ensures { λ r. ⌜ (r ≤ a) × (r ≤ b) ⌝ }
 {
     if a < b { a } else { b }
+}
+
+// Reads the pool: its 256 words.
+fn read_pool(file: i32, buffer: &mut [u8; 4096], place: Place, pool: &mut [u64; 256]) -> Place {
+    let mut here = place;
+    for i in 0..256 {
+        let w = super::next_word(file, buffer, here);
+        here = w.place;
+        pool[i] = w.word;
+    }
+    here
+}
+
+// Reads what comes before the cases.
+pub fn read_head(file: i32, buffer: &mut [u8; 4096], pool: &mut [u64; 256]) -> Head {
+    let count = super::next_word(file, buffer, super::start());
+    let place = count.place;
+    let place = read_pool(file, buffer, place, pool);
+    Head {
+        cases: count.word,
+        place,
+    }
 }
 
 // Reads `count` words into the line, from number `from` on: false at the end of the file.
@@ -146,9 +114,55 @@ fn read_words(
     }
 }
 
+// The float at the last of the places.
+fn pooled(pool: &[u64; 256], places: u64) -> f64 {
+    let k = places % 256;
+    real::float_of_word(pool[k as usize])
+}
+
+// Puts the parts of a record of places into the floats, up to number `end`.
+fn put_record(pool: &[u64; 256], places: u64, floats: &mut [f64; 96], end: usize, parts: usize) {
+    if FLOATS < end {
+        return;
+    }
+    let mut at = end;
+    let mut left = places;
+    let mut turns = least(parts, end);
+    while turns > 0 {
+        at = at - 1;
+        floats[at] = pooled(pool, left);
+        left = left / 256;
+        turns -= 1;
+    }
+}
+
+// Reads the line's records into the floats, one after the other.
+fn read_records(
+    file: i32,
+    buffer: &mut [u8; 4096],
+    place: Place,
+    pool: &[u64; 256],
+    line: &mut [u64; 32],
+    floats: &mut [f64; 96],
+    parts: usize,
+) -> Place {
+    let mut here = place;
+    let mut length = 0;
+    let mut left = line[COUNT] % LONGEST;
+    while left > 0 {
+        let w = super::next_word(file, buffer, here);
+        here = w.place;
+        length = std::num::wrapping_add_usize(length, parts);
+        put_record(pool, w.word, floats, length, parts);
+        left -= 1;
+    }
+    line[LENGTH] = length as u64;
+    here
+}
+
 // The words of an answer: a whole number, or one or two records.
-pub fn answer_words(function: u64, parts: usize) -> usize {
-    let s = shape_of(function);
+fn answer_words(function: u64, parts: usize) -> usize {
+    let s = tables::shape_of(function);
     let answers = s.answers;
     if answers == 0 {
         return 1;
@@ -159,23 +173,36 @@ pub fn answer_words(function: u64, parts: usize) -> usize {
     if parts <= 8 { 2 * parts } else { 16 }
 }
 
-// Reads a case of a record with so many parts.
-pub fn read_case(
+// Reads a case of a run after its function: its count, its records, its answer.
+fn read_run(
     file: i32,
     buffer: &mut [u8; 4096],
     place: Place,
+    pool: &[u64; 256],
     line: &mut [u64; 32],
+    floats: &mut [f64; 96],
     parts: usize,
 ) -> Read {
-    let head = read_words(file, buffer, place, line, FUNCTION, 1);
-    let place = head.place;
-    if !head.whole {
-        return head;
-    }
-    let function = line[0];
-    let s = shape_of(function);
-    let records = read_words(file, buffer, place, line, RECORDS, s.records);
-    let place = records.place;
+    let count = read_words(file, buffer, place, line, COUNT, 1);
+    let place = count.place;
+    let place = read_records(file, buffer, place, pool, line, floats, parts);
+    read_words(file, buffer, place, line, ANSWER, parts)
+}
+
+// Reads a case of one function after its number: its records, extras, number and answer.
+fn read_single(
+    file: i32,
+    buffer: &mut [u8; 4096],
+    place: Place,
+    pool: &[u64; 256],
+    line: &mut [u64; 32],
+    floats: &mut [f64; 96],
+    parts: usize,
+) -> Read {
+    let function = line[FUNCTION];
+    let s = tables::shape_of(function);
+    line[COUNT] = s.records;
+    let place = read_records(file, buffer, place, pool, line, floats, parts);
     let extras = read_words(file, buffer, place, line, EXTRAS, s.extras);
     let place = extras.place;
     let number = read_words(file, buffer, place, line, NUMBER, 1);
@@ -190,35 +217,99 @@ pub fn read_case(
     )
 }
 
-// Reads the pool: its 256 words.
-pub fn read_pool(file: i32, buffer: &mut [u8; 4096], place: Place, pool: &mut [u64; 256]) -> Place {
-    let mut here = place;
-    for i in 0..256 {
-        let w = super::next_word(file, buffer, here);
-        here = w.place;
-        pool[i] = w.word;
+// Reads a case of a record with so many parts. At the end of the file nothing more is read, so its last words say whether it is whole.
+pub fn read_case(
+    file: i32,
+    buffer: &mut [u8; 4096],
+    place: Place,
+    pool: &[u64; 256],
+    line: &mut [u64; 32],
+    floats: &mut [f64; 96],
+    parts: usize,
+) -> Read {
+    let head = read_words(file, buffer, place, line, FUNCTION, 1);
+    let place = head.place;
+    if tables::is_run(line[FUNCTION]) {
+        return read_run(file, buffer, place, pool, line, floats, parts);
     }
-    here
+    read_single(file, buffer, place, pool, line, floats, parts)
 }
 
-// The float that part number `part` of a record of places points to, counted from the last part.
-pub fn pooled(pool: &[u64; 256], places: u64, part: u32) -> f64 {
-    if part >= 8 {
+// A case's float number at + part, 0 where there is none.
+pub fn part(floats: &[f64; 96], at: usize, part: usize) -> f64 {
+    if FLOATS <= at {
         return 0.0;
     }
-    let k = (places >> (8 * part)) % 256;
-    real::float_of_word(pool[k as usize])
+    if part < FLOATS - at {
+        floats[at + part]
+    } else {
+        0.0
+    }
 }
 
-// The first `count` words are those of the line's answer, and the number is its number.
-pub fn same(line: &[u64; 32], number: u64, words: [u64; 16], count: usize) -> bool {
-    if number != line[NUMBER] {
+// What a truth adds to a whole number.
+pub fn flag(on: bool, weight: u64) -> u64 {
+    if on { weight } else { 0 }
+}
+
+// A whole number as an answer.
+pub fn of_number(n: u64) -> Answer {
+    let mut words = [0u64; 16];
+    words[0] = n;
+    Answer { number: 0, words }
+}
+
+// A refusal as an answer.
+pub fn of_refusal(number: u32) -> Answer {
+    Answer {
+        number: number as u64,
+        words: [0u64; 16],
+    }
+}
+
+// What no recorded answer equals.
+pub fn no_answer() -> Answer {
+    Answer {
+        number: u64::MAX,
+        words: [0u64; 16],
+    }
+}
+
+// Puts the words of a record's parts, from number `from` on.
+fn put_words(words: &mut [u64; 16], floats: [f64; 8], from: usize) {
+    if 8 < from {
+        return;
+    }
+    let mut i = 0usize;
+    while i < 8 {
+        words[from + i] = real::word_of_float(floats[i]);
+        i += 1;
+    }
+}
+
+// A record's parts, zeros after them, as an answer.
+pub fn of_record(floats: [f64; 8]) -> Answer {
+    let mut words = [0u64; 16];
+    put_words(&mut words, floats, 0);
+    Answer { number: 0, words }
+}
+
+// Two records of so many parts as an answer.
+pub fn of_records(first: [f64; 8], second: [f64; 8], parts: usize) -> Answer {
+    let mut words = [0u64; 16];
+    put_words(&mut words, first, 0);
+    put_words(&mut words, second, parts);
+    Answer { number: 0, words }
+}
+
+// The answers are the same.
+fn same(a: Answer, b: Answer) -> bool {
+    if a.number != b.number {
         return false;
     }
-    let end = least(count, 16);
     let mut i = 0usize;
-    while i < end {
-        if words[i] != line[ANSWER + i] {
+    while i < 16 {
+        if a.words[i] != b.words[i] {
             return false;
         }
         i += 1;
@@ -226,52 +317,100 @@ pub fn same(line: &[u64; 32], number: u64, words: [u64; 16], count: usize) -> bo
     true
 }
 
-// powi's exponent from its 64-bit two's complement.
-fn exponent(w: u64) -> i32 {
-    if w <= 0x7fff_ffff {
-        return w as i32;
-    }
-    let below = u64::MAX - w;
-    if below <= 0x7fff_ffff {
-        return !(below as i32);
-    }
-    0
+// One answer reached in two ways: none where they differ.
+pub fn both(a: Answer, b: Answer) -> Answer {
+    if same(a, b) { a } else { no_answer() }
 }
 
-// The request of a function number, with its extras.
-pub fn request_of(function: u64, first: u64, second: u64) -> Request {
-    let a = real::float_of_word(first);
-    let b = real::float_of_word(second);
-    match function {
-        0x1b => Request::Is(Function::Powi {
-            exp: exponent(first),
-            pow3: b,
-        }),
-        0x1c => Request::Is(Function::Powf { n: a, pow3: b }),
-        0x1d => Request::Is(Function::Cbrt { cbrt: a }),
-        0x1e => Request::Is(Function::Exp { exp: a }),
-        0x1f => Request::Is(Function::Exp2 { exp2: a }),
-        0x20 => Request::Is(Function::ExpM1 { exp_m1: a, exp: b }),
-        0x21 => Request::Is(Function::Ln { ln: a }),
-        0x22 => Request::Is(Function::Log { log: a, ln_base: b }),
-        0x23 => Request::Is(Function::Log2 { log2: a }),
-        0x24 => Request::Is(Function::Log10 { log10: a }),
-        0x25 => Request::Is(Function::Ln1p { ln_1p: a }),
-        0x26 => Request::Is(Function::Sin { sin: a, cos: b }),
-        0x27 => Request::Is(Function::Cos { sin: a, cos: b }),
-        0x29 => Request::Is(Function::Tan { sin: a, cos: b }),
-        0x2a => Request::Is(Function::Asin { asin: a }),
-        0x2b => Request::Is(Function::Acos { acos: a }),
-        0x2c => Request::Is(Function::Atan { atan: a }),
-        0x2e => Request::Is(Function::Sinh { sinh: a, cosh: b }),
-        0x2f => Request::Is(Function::Cosh { sinh: a, cosh: b }),
-        0x30 => Request::Is(Function::Tanh { sinh: a, cosh: b }),
-        0x31 => Request::Is(Function::Asinh { asinh: a }),
-        0x32 => Request::Is(Function::Acosh { acosh: a }),
-        0x33 => Request::Is(Function::Atanh { atanh: a }),
-        0x34 => Request::Is(Function::SphJ0 { sin: a, cos: b }),
-        0x35 => Request::Is(Function::SphJ1 { sin: a, cos: b }),
-        0x36 => Request::Is(Function::SphJ2 { sin: a, cos: b }),
-        _ => Request::Not,
+// The answer that the line holds.
+fn wanted(line: &[u64; 32]) -> Answer {
+    let mut words = [0u64; 16];
+    for i in 0..16 {
+        words[i] = line[ANSWER + i];
     }
+    Answer {
+        number: line[NUMBER],
+        words,
+    }
+}
+
+// One more, at a number of the counts.
+fn raise(counts: &mut [u64; 128], at: usize) {
+    if at < 128 {
+        counts[at] = std::num::wrapping_add_u64(counts[at], 1);
+    }
+}
+
+// Prints an answer: its number and so many words.
+fn print_answer(a: Answer, count: usize) {
+    io::print_hex(STDOUT_FILENO, a.number, 2);
+    let words = a.words;
+    let end = least(count, 16);
+    let mut i = 0usize;
+    while i < end {
+        io::write_all(STDOUT_FILENO, b" ");
+        io::print_hex(STDOUT_FILENO, words[i], 16);
+        i += 1;
+    }
+}
+
+// Prints NAME case N: got ANSWER, wanted ANSWER.
+fn print_case(line: &[u64; 32], number: u64, got: Answer, parts: usize) {
+    let function = line[FUNCTION];
+    let count = answer_words(function, parts);
+    io::write_all(STDOUT_FILENO, b"  ");
+    tables::print_name(function);
+    io::write_all(STDOUT_FILENO, b" case ");
+    io::print_decimal(STDOUT_FILENO, number);
+    io::write_all(STDOUT_FILENO, b": got ");
+    print_answer(got, count);
+    io::write_all(STDOUT_FILENO, b", wanted ");
+    print_answer(wanted(line), count);
+    io::write_all(STDOUT_FILENO, b"\n");
+}
+
+// Counts a case, the same or different. The first different one of each function is printed.
+pub fn count(counts: &mut [u64; 128], line: &[u64; 32], whole: bool, got: Answer, parts: usize) {
+    let at = (line[FUNCTION] % 64) as usize;
+    raise(counts, at);
+    if whole && same(wanted(line), got) {
+        return;
+    }
+    raise(counts, at + DIFFERENT);
+    if counts[at + DIFFERENT] == 1 {
+        print_case(line, counts[at], got, parts);
+    }
+}
+
+// What a file has after its last case is a difference of no function.
+pub fn count_rest(file: i32, buffer: &mut [u8; 4096], place: Place, counts: &mut [u64; 128]) {
+    let w = super::next_word(file, buffer, place);
+    if w.digits != 0 {
+        raise(counts, DIFFERENT);
+    }
+}
+
+fn tally_of(counts: &[u64; 128], at: usize) -> Tally {
+    if DIFFERENT <= at {
+        return super::tally(0, 0);
+    }
+    Tally {
+        compared: counts[at],
+        different: counts[at + DIFFERENT],
+    }
+}
+
+// Prints a line for each function that was counted, and NAME's line for them all.
+pub fn report(name: &[u8], counts: &[u64; 128]) {
+    let mut sum = super::tally(0, 0);
+    for at in 0..64 {
+        let t = tally_of(counts, at);
+        sum = super::added(sum, t);
+        if t.compared != 0 || t.different != 0 {
+            io::write_all(STDOUT_FILENO, b"  ");
+            tables::print_name(at as u64);
+            super::report(b"", t);
+        }
+    }
+    super::report(name, sum);
 }
