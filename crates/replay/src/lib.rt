@@ -124,15 +124,17 @@ pub fn next_word(file: i32, buffer: &mut [u8; 4096], place: Place) -> Word {
     }
 }
 
-pub fn tally(compared: u64, different: u64) -> Tally {
-    Tally {
-        compared,
-        different,
+impl Tally {
+    pub fn new(compared: u64, different: u64) -> Self {
+        Self {
+            compared,
+            different,
+        }
     }
 }
 
 pub(crate) fn added(a: Tally, b: Tally) -> Tally {
-    tally(
+    Tally::new(
         std::num::wrapping_add_u64(a.compared, b.compared),
         std::num::wrapping_add_u64(a.different, b.different),
     )
@@ -140,7 +142,7 @@ pub(crate) fn added(a: Tally, b: Tally) -> Tally {
 
 // One answer more: same or not.
 pub fn counted(t: Tally, same: bool) -> Tally {
-    added(t, tally(1, if same { 0 } else { 1 }))
+    added(t, Tally::new(1, if same { 0 } else { 1 }))
 }
 
 // Prints NAME: N compared, M different.

@@ -341,6 +341,12 @@ fn raise(counts: &mut [u64; 128], at: usize) {
     }
 }
 
+// Prints a function by its number in the table.
+fn print_function(function: u64) {
+    io::write_all(STDOUT_FILENO, b"  function ");
+    io::print_hex(STDOUT_FILENO, function, 2);
+}
+
 // Prints an answer: its number and so many words.
 fn print_answer(a: Answer, count: usize) {
     io::print_hex(STDOUT_FILENO, a.number, 2);
@@ -354,12 +360,11 @@ fn print_answer(a: Answer, count: usize) {
     }
 }
 
-// Prints NAME case N: got ANSWER, wanted ANSWER.
+// Prints FUNCTION case N: got ANSWER, wanted ANSWER.
 fn print_case(line: &[u64; 32], number: u64, got: Answer, parts: usize) {
     let function = line[FUNCTION];
     let count = answer_words(function, parts);
-    io::write_all(STDOUT_FILENO, b"  ");
-    tables::print_name(function);
+    print_function(function);
     io::write_all(STDOUT_FILENO, b" case ");
     io::print_decimal(STDOUT_FILENO, number);
     io::write_all(STDOUT_FILENO, b": got ");
@@ -392,7 +397,7 @@ pub fn count_rest(file: i32, buffer: &mut [u8; 4096], place: Place, counts: &mut
 
 fn tally_of(counts: &[u64; 128], at: usize) -> Tally {
     if DIFFERENT <= at {
-        return super::tally(0, 0);
+        return Tally::new(0, 0);
     }
     Tally {
         compared: counts[at],
@@ -402,13 +407,12 @@ fn tally_of(counts: &[u64; 128], at: usize) -> Tally {
 
 // Prints a line for each function that was counted, and NAME's line for them all.
 pub fn report(name: &[u8], counts: &[u64; 128]) {
-    let mut sum = super::tally(0, 0);
+    let mut sum = Tally::new(0, 0);
     for at in 0..64 {
         let t = tally_of(counts, at);
         sum = super::added(sum, t);
         if t.compared != 0 || t.different != 0 {
-            io::write_all(STDOUT_FILENO, b"  ");
-            tables::print_name(at as u64);
+            print_function(at as u64);
             super::report(b"", t);
         }
     }

@@ -5,19 +5,13 @@ use Rattle.replay.proofs.records.same.Statement.{statement}
 use Rattle.replay.proofs.records.same.Tie as tie
 
 abbrev Inv-loop : tie.InvT-loop
-Inv-loop line number count words end i₀ i = i ≤ end
+Inv-loop a b i₀ i = i ≤ 16
 
 abbrev μ-loop : tie.MeasureT-loop
-μ-loop line number count words end i₀ i = end - i
-
-element-copy-out-if1 : tie.Need-element-copy-out-if1 Inv-loop μ-loop
-element-copy-out-if1 c = search needs
+μ-loop a b i₀ i = 16 - i
 
 returns : tie.Need-returns Inv-loop μ-loop
 returns c = search needs
-
-least-requires : tie.Need-least-requires Inv-loop μ-loop
-least-requires c κs = search needs
 
 loop-holds : tie.Need-loop-holds Inv-loop μ-loop
 loop-holds c = search needs
@@ -25,17 +19,14 @@ loop-holds c = search needs
 mul-if2 : tie.Need-mul-if2 Inv-loop μ-loop
 mul-if2 c = search needs
 
-array-read-if2 : tie.Need-array-read-if2 Inv-loop μ-loop
-array-read-if2 c = search needs
-
-add-if2 : tie.Need-add-if2 Inv-loop μ-loop
-add-if2 c = search needs
+element-copy-out-if2 : tie.Need-element-copy-out-if2 Inv-loop μ-loop
+element-copy-out-if2 c = search needs
 
 mul-if2-2 : tie.Need-mul-if2-2 Inv-loop μ-loop
 mul-if2-2 c = search needs
 
-element-copy-out-if2 : tie.Need-element-copy-out-if2 Inv-loop μ-loop
-element-copy-out-if2 c = search needs
+element-copy-out-if2-2 : tie.Need-element-copy-out-if2-2 Inv-loop μ-loop
+element-copy-out-if2-2 c = search needs
 
 returns-2 : tie.Need-returns-2 Inv-loop μ-loop
 returns-2 c = search needs
@@ -58,15 +49,12 @@ same-spec =
     (tie.spec
     Inv-loop
     μ-loop
-    element-copy-out-if1
     returns
-    least-requires
     loop-holds
     mul-if2
-    array-read-if2
-    add-if2
-    mul-if2-2
     element-copy-out-if2
+    mul-if2-2
+    element-copy-out-if2-2
     returns-2
     add-i
     loop-less
