@@ -92,7 +92,7 @@ fn solve_file(run: Run) -> Answers {
         text.extend(lines(&factors.solve(&b)));
         text.join("\n")
     };
-    let all = factors(&mut Random::new(run.seed, "solve factors"), run.cases);
+    let all = factors(&mut Random::new(run.seed, "solve factors"), run.cases / 2);
     file("solve", "Solutions by factors over Dual.", all.iter().map(case).collect())
 }
 
@@ -103,7 +103,7 @@ fn determinant_file(run: Run) -> Answers {
         text.extend(lines(&[factors.determinant()]));
         text.join("\n")
     };
-    let all = factors(&mut Random::new(run.seed, "determinant factors"), run.cases);
+    let all = factors(&mut Random::new(run.seed, "determinant factors"), run.cases / 2);
     file("determinant", "Determinants by factors over Dual.", all.iter().map(case).collect())
 }
 
@@ -114,7 +114,7 @@ fn inverse_file(run: Run) -> Answers {
         text.extend(lines(&factors.inverse()));
         text.join("\n")
     };
-    let all = factors(&mut Random::new(run.seed, "inverse factors"), run.cases);
+    let all = factors(&mut Random::new(run.seed, "inverse factors"), run.cases / 2);
     file("inverse", "Inverses by factors over Dual.", all.iter().map(case).collect())
 }
 

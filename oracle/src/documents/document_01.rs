@@ -6,111 +6,102 @@ use crate::original::{Dual, Dual2, Dual3, DualNum, DualNumFloat, HyperDual, Hype
 use crate::random::Random;
 use crate::record::Record;
 use crate::supplied::{Outside, Supplied};
-use crate::words::words;
+use crate::words::{float, words};
 use num_traits::{FloatConst, Signed};
 use std::hint::black_box;
 use std::panic;
 
 pub(super) fn rows() -> Vec<Row> {
-    [records(), roots(), lu_rows(), jacobi_rows(), slips(), source_lines()].concat()
+    let records = [constants(), operators(), powers(), spherical()].concat();
+    [records, roots(), lu_rows(), jacobi_rows(), slips(), source_lines()].concat()
 }
 
-fn records() -> Vec<Row> {
-    let p = "01 records";
-    let below = f64::from_bits(f64::EPSILON.to_bits() - 1);
-    let nan_sine = [(Outside::Sin, NAN), (Outside::Cos, NAN)];
-    let j = |at: f64| with::<Dual<Supplied>>(&nan_sine, &[at, 1.0], |x| x.sph_j2())[0];
+const RECORDS: &str = "01 records";
+
+fn constants() -> Vec<Row> {
+    let orders = [
+        Dual::<f64>::NDERIV,
+        Dual2::<f64>::NDERIV,
+        Dual3::<f64>::NDERIV,
+        HyperDual::<f64>::NDERIV,
+        HyperHyperDual::<f64>::NDERIV,
+    ];
+    vec![
+        row(RECORDS, "ln 2", &[0.6931471805599453], &[black_box(2f64).ln()]),
+        row(RECORDS, "ln 10", &[2.302585092994046], &[f64::LN_10()]),
+        row(RECORDS, "the constant third", &[1.0 / 3.0], &[<f64 as DualNumFloat>::THIRD]),
+        said(RECORDS, "NDERIV of the five", [1, 2, 3, 2, 3], orders),
+    ]
+}
+
+/// The items marked (m), and the quotient.
+fn operators() -> Vec<Row> {
+    let x = dual(2.0, 3.0);
+    let by_float = flat(&[x * 3.0, x / 3.0, x + 3.0, x - 3.0]);
+    let wanted = [6.0, 9.0, 2.0 / 3.0, 1.0, 5.0, 3.0, -1.0, 3.0];
+    let sum: Entry = [dual(-0.0, -0.0)].into_iter().sum();
+    let product: Entry = [dual(INF, 1.0)].into_iter().product();
+    let quotient = dual(49.0, 0.0) / dual(49.0, 0.0);
+    vec![
+        said(RECORDS, "-0 is negative", true, dual(-0.0, 1.0).is_negative()),
+        row(RECORDS, "abs of (-0, 1)", &[0.0, -1.0], &dual(-0.0, 1.0).abs().parts()),
+        row(RECORDS, "abs of (0, 1)", &[0.0, 1.0], &dual(0.0, 1.0).abs().parts()),
+        row(RECORDS, "Sum from zero: of (-0, -0)", &[0.0, 0.0], &sum.parts()),
+        row(RECORDS, "Product from one: of (inf, 1)", &[INF, NAN], &product.parts()),
+        row(RECORDS, "(2, 3) times, over, plus, minus the float 3", &wanted, &by_float),
+        said(RECORDS, "comparison by real parts only", true, dual(1.0, 5.0) == dual(1.0, 7.0)),
+        row("P2", "(49, 0)/(49, 0)", &[float(0x3fefffffffffffff)], &[quotient.re]),
+        row("P11", "sqrt of (0, 1)", &[0.0, NAN], &dual(0.0, 1.0).sqrt().parts()),
+        quotient_row(),
+    ]
+}
+
+fn powers() -> Vec<Row> {
     let powf = |n: f64| {
         with::<Dual<Supplied>>(&[(Outside::Powf, NAN)], &[5.0, 1.0], |x| x.powf(Supplied(n)))
     };
-    let nan = dual(NAN, NAN);
-    let below_two = f64::from_bits(2f64.to_bits() - 1);
+    let cube =
+        with::<Dual3<Supplied>>(&[(Outside::Powi, 1.0)], &[5.0, 1.0, 0.0, 0.0], |x| x.powi(3));
+    let nan = dual(NAN, 1.0);
+    let largest = dual(1.0, 1.0).powi(1024);
     vec![
-        row(p, "ln 2", &[0.6931471805599453], &[black_box(2f64).ln()]),
-        row(p, "ln 10", &[2.302585092994046], &[f64::LN_10()]),
-        row(p, "the constant third", &[1.0 / 3.0], &[<f64 as DualNumFloat>::THIRD]),
-        said(p, "-0 is negative", true, dual(-0.0, 1.0).is_negative()),
-        row(p, "abs of (-0, 1)", &[0.0, -1.0], &dual(-0.0, 1.0).abs().parts()),
-        row(p, "abs of (0, 1)", &[0.0, 1.0], &dual(0.0, 1.0).abs().parts()),
-        row(
-            p,
-            "Sum from zero",
-            &[0.0, 0.0],
-            &[dual(-0.0, -0.0)].into_iter().sum::<Entry>().parts(),
-        ),
-        row(p, "NaN powi 0", &[1.0, 0.0], &nan.powi(0).parts()),
-        row(p, "NaN powi 1", &[NAN, NAN], &nan.powi(1).parts()),
-        row(
-            p,
-            "(NaN, 1) powi 2 is the square",
-            &(dual(NAN, 1.0) * dual(NAN, 1.0)).parts(),
-            &dual(NAN, 1.0).powi(2).parts(),
-        ),
-        row(p, "powf 0, whatever is supplied", &[1.0, 0.0], &powf(0.0)),
-        row(p, "powf 1, whatever is supplied", &[5.0, 1.0], &powf(1.0)),
-        row(p, "powf 2, whatever is supplied", &[25.0, 10.0], &powf(2.0)),
-        row(p, "powf 2 - 2^-52 is not the square", &[NAN, NAN], &powf(below_two)),
-        row(p, "sph_j2 just below 2^-52 reads no sine", &[below * below / 15.0], &[j(below)]),
-        row(p, "sph_j2 at 2^-52 reads the sine", &[NAN], &[j(f64::EPSILON)]),
-        row(
-            p,
-            "sph_j0 at (below, 1) by 1 - x·x/6",
-            &[1.0, 0.0 - 2.0 * below / 6.0],
-            &dual(below, 1.0).sph_j0().parts(),
-        ),
-        row(
-            p,
-            "sph_j1 at (below, 1) by x/3",
-            &[below / 3.0, 1.0 / 3.0],
-            &dual(below, 1.0).sph_j1().parts(),
-        ),
-        row(
-            p,
-            "a float times, over, plus, minus: (6, 9), (2/3, 1), (5, 3), (-1, 3)",
-            &[6.0, 9.0, 2.0 / 3.0, 1.0, 5.0, 3.0, -1.0, 3.0],
-            &flat(&[
-                dual(2.0, 3.0) * 3.0,
-                dual(2.0, 3.0) / 3.0,
-                dual(2.0, 3.0) + 3.0,
-                dual(2.0, 3.0) - 3.0,
-            ]),
-        ),
-        said(p, "comparison by real parts only", true, dual(1.0, 5.0) == dual(1.0, 7.0)),
-        row(
-            "P2",
-            "(49, 0)/(49, 0)",
-            &[f64::from_bits(0x3fefffffffffffff)],
-            &[(dual(49.0, 0.0) / dual(49.0, 0.0)).re],
-        ),
+        row(RECORDS, "NaN powi 0", &[1.0, 0.0], &nan.powi(0).parts()),
+        row(RECORDS, "(NaN, 1) powi 1", &[NAN, 1.0], &nan.powi(1).parts()),
+        row(RECORDS, "(NaN, 1) powi 2 is the square", &(nan * nan).parts(), &nan.powi(2).parts()),
+        row(RECORDS, "powf 0, whatever is supplied", &[1.0, 0.0], &powf(0.0)),
+        row(RECORDS, "powf 1, whatever is supplied", &[5.0, 1.0], &powf(1.0)),
+        row(RECORDS, "powf 2, whatever is supplied", &[25.0, 10.0], &powf(2.0)),
+        row(RECORDS, "powf 2 - 2^-52 is not the square", &[NAN, NAN], &powf(next_below(2.0))),
         row("P8", "(5, 1) powi 2", &[25.0, 10.0], &dual(5.0, 1.0).powi(2).parts()),
-        row(
-            "P8",
-            "Dual3 (5,1,0,0) powi 3 with 1 supplied",
-            &[125.0, 75.0, 30.0, 6.0],
-            &with::<Dual3<Supplied>>(&[(Outside::Powi, 1.0)], &[5.0, 1.0, 0.0, 0.0], |x| x.powi(3)),
-        ),
-        said("P9", "(1, 1) powi 1024 ends", 1024.0, dual(1.0, 1.0).powi(1024).eps),
+        row("P8", "Dual3 (5,1,0,0) powi 3 with 1 supplied", &[125.0, 75.0, 30.0, 6.0], &cube),
+        row("P9", "(1, 1) powi 1024", &[1.0, 1024.0], &largest.parts()),
         said(
             "P9",
-            "exp·(exp - 1)·(exp - 2) at 1024 and -1024 fits i32",
+            "exp·(exp - 1)·(exp - 2) fits i32 at ±1024",
             [true, true],
             [1024, -1024].map(fits),
         ),
-        row("P11", "sqrt of (0, 1)", &[0.0, NAN], &dual(0.0, 1.0).sqrt().parts()),
-        said(
-            p,
-            "NDERIV of the five",
-            [1, 2, 3, 2, 3],
-            [
-                Dual::<f64>::NDERIV,
-                Dual2::<f64>::NDERIV,
-                Dual3::<f64>::NDERIV,
-                HyperDual::<f64>::NDERIV,
-                HyperHyperDual::<f64>::NDERIV,
-            ],
-        ),
-        quotient_row(),
     ]
+}
+
+/// sph_j on both sides of 2^-52: which side reads the sine.
+fn spherical() -> Vec<Row> {
+    let below = next_below(f64::EPSILON);
+    let x = dual(below, 1.0);
+    let nan_sine = [(Outside::Sin, NAN), (Outside::Cos, NAN)];
+    let j2 = |at: f64| with::<Dual<Supplied>>(&nan_sine, &[at, 1.0], |x| x.sph_j2());
+    let wanted = [below * below / 15.0, (below + below) / 15.0];
+    let slope = -((below + below) / 6.0);
+    vec![
+        row(RECORDS, "sph_j0 just below 2^-52 is 1 - x·x/6", &[1.0, slope], &x.sph_j0().parts()),
+        row(RECORDS, "sph_j1 there is x/3", &[below / 3.0, 1.0 / 3.0], &x.sph_j1().parts()),
+        row(RECORDS, "sph_j2 there is x·x/15 and reads no sine", &wanted, &j2(below)),
+        row(RECORDS, "sph_j2 at 2^-52 reads the sine", &[NAN, NAN], &j2(f64::EPSILON)),
+    ]
+}
+
+fn next_below(x: f64) -> f64 {
+    float(x.to_bits() - 1)
 }
 
 /// powi's last factor is exact in i32.
@@ -265,7 +256,7 @@ fn slips() -> Vec<Row> {
         row(
             p,
             "49 x = 49 over f64 and over Dual",
-            &[1.0, f64::from_bits(0x3fefffffffffffff)],
+            &[1.0, float(0x3fefffffffffffff)],
             &[single[0], double],
         ),
     ]
