@@ -1,5 +1,5 @@
 //! What running showed where the Rust, document 01 and public documents differ or are silent:
-//! DIFFERENCES-found.md, each line of it run.
+//! docs/DIFFERENCES.md, each line of it run.
 use super::{INF, NAN, Row, dual, flat, row, said};
 use crate::matrices::{Entry, jacobi, lu};
 use crate::original::DualNum;

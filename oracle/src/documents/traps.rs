@@ -7,7 +7,7 @@ use crate::supplied::{Outside, Supplied, with_supplied};
 use num_traits::One;
 
 pub(super) fn rows() -> Vec<Row> {
-    let p = "design 10";
+    let p = "trap";
     let tiny = f64::from_bits(1);
     let cbrt =
         |f0: f64| with::<Dual2<Supplied>>(&[(Outside::Cbrt, f0)], &[1.0, 1.0, 0.0], |x| x.cbrt());
