@@ -1,8 +1,8 @@
 -- The examples of explicit.rs, by computing the definitions.
 use mathlib.Core.Path.{_≡_, refl}
 use lib.IntN.{pos}
-use lib.Ieee.{Float, binary64, ofBits, toBits, ofInt, add, sub, mul, div}
-use Rattle.real.specs.Operations.{zero, one}
+use lib.Ieee.{binary64, ofBits, ofInt, add, sub, mul, div}
+use Rattle.real.specs.Operations.{one}
 use Rattle.real.specs.Root.{rootOf}
 use Rattle.derivatives.specs.Series.{fromInt, sqrtSeries}
 use Rattle.derivatives.specs.Apply.{sqrtOf}
