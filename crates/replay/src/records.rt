@@ -247,6 +247,15 @@ pub fn part(floats: &[f64; 96], at: usize, part: usize) -> f64 {
     }
 }
 
+// The floats of a run: all there are where it says that it has more.
+pub fn run_of(floats: &[f64], length: u64) -> &[f64] {
+    let n = length as usize;
+    if n <= floats.len() {
+        return &floats[0..n];
+    }
+    floats
+}
+
 // What a truth adds to a whole number.
 pub fn flag(on: bool, weight: u64) -> u64 {
     if on { weight } else { 0 }

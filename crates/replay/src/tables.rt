@@ -1,10 +1,6 @@
 // The table of functions in oracle/README.md: what a case of each holds, and its request.
 use derivatives::Function;
 
-pub const SUM: u64 = 0x39;
-
-pub const PRODUCT: u64 = 0x3a;
-
 // How many records and extras a function takes, and how many records it answers: none is a whole number.
 pub(crate) struct Shape {
     pub records: u64,
@@ -20,7 +16,7 @@ pub enum Request {
 
 // The functions of runs-KIND.txt.
 pub(crate) fn is_run(function: u64) -> bool {
-    function == SUM || function == PRODUCT
+    function == 0x39 || function == 0x3a
 }
 
 impl Shape {

@@ -98,18 +98,6 @@ fn request(function: u64, x: Dual, first: u64, second: u64) -> Answer {
     }
 }
 
-fn run(function: u64, floats: &[f64; 96], length: u64) -> Answer {
-    if length > 96 {
-        return records::no_answer();
-    }
-    let n = length as usize;
-    if function == tables::SUM {
-        of_answer(dual::sum(&floats[..n]))
-    } else {
-        of_answer(dual::product(&floats[..n]))
-    }
-}
-
 pub(crate) fn answer(line: &[u64; 32], floats: &[f64; 96]) -> Answer {
     let function = line[records::FUNCTION];
     let first = line[records::FIRST];
@@ -129,7 +117,8 @@ pub(crate) fn answer(line: &[u64; 32], floats: &[f64; 96]) -> Answer {
         ),
         0x15..=0x17 | 0x28 | 0x2d | 0x38 => method(function, x, y, a, b),
         0x37 => of_record(x.mul_add(y, record_at(floats, 2 * PARTS))),
-        tables::SUM | tables::PRODUCT => run(function, floats, line[records::LENGTH]),
+        0x39 => of_answer(dual::sum(records::run_of(floats, line[records::LENGTH]))),
+        0x3a => of_answer(dual::product(records::run_of(floats, line[records::LENGTH]))),
         _ => request(function, x, first, second),
     }
 }
