@@ -2,7 +2,7 @@
 -- lists: what a filling loop has passed, what is left of a list
 mod Fill
 mod Rest
-mod Odd
+pub mod Odd
 -- places of a square matrix in flat floats
 pub mod Places
 -- LU: its columns case by case
@@ -14,3 +14,6 @@ pub mod Parity
 pub mod Slopes
 -- rows of floats are rows of records
 pub mod RowsOfRecords
+-- for the code over a record: its inner loops, and the two ways out of an entry
+pub mod Inner
+pub mod Answers

@@ -177,7 +177,7 @@ order-below n p o k h = all-at (λ v. v < n) p k (let z = o .size in omega arith
 
 -- ---- the test is true of permutations exactly
 
-both : (a b : Bool) → (a && b) ≡ true → (a ≡ true) × (b ≡ true)
+pub both : (a b : Bool) → (a && b) ≡ true → (a ≡ true) × (b ≡ true)
 both true b e = (refl, e)
 both false b e = absurd (let z : _≡_ {A = Bool} false true = e in false-true z)
   where

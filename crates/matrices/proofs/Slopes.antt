@@ -14,7 +14,7 @@ use Rattle.algebra.specs.Loop.{upto}
 use Rattle.algebra.proofs.Loop.{upto-map}
 use Rattle.matrices.specs.Matrix.{exchange, exchangeRows, cell, store}
 use Rattle.matrices.specs.Lu.{Run, going, singular, better, bring, numbers, pivotOf, subtract, reduceRow, reduce, reduceRun, column, luOf}
-use Rattle.matrices.specs.Solve.{eliminate, forwardRow, forward, divide, backRow, back, substitute, solveOf}
+use Rattle.matrices.specs.Solve.{less, eliminate, forwardRow, forward, divide, backRow, back, substitute, solveOf}
 use Rattle.matrices.specs.Determinant.{diagonal, determinantOf}
 use Rattle.matrices.specs.Inverse.{unit, inverseColumn, inverseOf}
 use Rattle.matrices.specs.Order.{isOdd}
@@ -118,7 +118,7 @@ module _ {R S : Type 0} (A : Algebra R) (B : Algebra S) (h : R → S) (H : Keeps
 
   module _ (a : List R) (stride base : ℕ) where
     eliminate-map : (i k : ℕ) (x : List R) → map h (eliminate A n a stride base i k x) ≡ eliminate B n (map h a) stride base i k (map h x)
-    unfolding eliminate
+    unfolding eliminate less
     eliminate-map i k x = simp (map-set, H .sub, H .mul, at-map, cell-map)
 
     divide-map : (i : ℕ) (x : List R) → map h (divide A n a stride base i x) ≡ divide B n (map h a) stride base i (map h x)

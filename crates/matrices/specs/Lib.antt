@@ -7,3 +7,4 @@ pub mod Determinant
 pub mod Inverse
 pub mod Order
 pub mod Entries
+pub mod SameReals

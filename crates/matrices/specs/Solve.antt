@@ -1,10 +1,16 @@
 -- Solving with factors and order over any record: the steps of `solve` in linalg.rs, which are also those of one column of `inverse`. Definitions only.
-use Prim.Native.Nat.{ℕ, _+_, _-_, _*_}
+use Prim.Native.Nat.{ℕ, _+_, _-_, _*_, _≤_, _<_}
 use mathlib.Core.List.{List}
-use lib.ListN.{getD, set, replicate}
+use lib.ListN.{length, getD, set, replicate}
+use lib.Ieee.{Float}
 use Rattle.algebra.specs.Algebra.{Algebra, zeroOf}
 use Rattle.algebra.specs.Loop.{upto}
 use Rattle.matrices.specs.Matrix.{cell}
+
+-- flat floats of records of w floats in which the vector's n elements lie, element i at record i * stride + base
+pub record Strided (w n stride base : ℕ) (l : List Float) : Type 0 where
+  pub some : 0 < stride
+  pub inside : (i : ℕ) → i < n → (i * stride + base) * w + w ≤ length l
 
 -- The vector x stands in a list, its element i at i * stride + base: all of the list (stride 1, base 0), or column j of a matrix (stride n, base j).
 module _ {R : Type 0} (A : Algebra R) (n : ℕ) (a : List R) (stride base : ℕ) where
@@ -16,9 +22,13 @@ module _ {R : Type 0} (A : Algebra R) (n : ℕ) (a : List R) (stride base : ℕ)
   abbrev pub assign : List R → ℕ → R → List R
   assign x i v = set x (i * stride + base) v
 
+  -- v - a[(i, k)] * x[k]
+  unfoldable pub less : ℕ → List R → ℕ → R → R
+  less i x k v = A .sub v (A .mul (cell A n a i k) (element x k))
+
   -- x[i] = x[i] - a[(i, k)] * x[k]
   unfoldable pub eliminate : ℕ → ℕ → List R → List R
-  eliminate i k x = assign x i (A .sub (element x i) (A .mul (cell A n a i k) (element x k)))
+  eliminate i k x = assign x i (less i x k (element x i))
 
   -- x[i] = start; for k in 0..i
   unfoldable pub forwardRow : (ℕ → R) → ℕ → List R → List R
