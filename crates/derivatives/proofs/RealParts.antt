@@ -1,0 +1,72 @@
+-- A map that keeps the operations of a record keeps every elementary function. At the map to the real part: real parts, and whether a request is
+-- refused, come from real parts alone. Once for the five record types. Assumes nothing.
+use mathlib.Core.Path.{_≡_, refl}
+use mathlib.Core.Bool.{Bool, true, false, cond}
+use lib.Ieee.{Float, lt, eq}
+use Rattle.real.specs.Operations.{zero}
+use Rattle.real.specs.Sign.{signOf}
+use Rattle.algebra.specs.Algebra.{Algebra, Keeps, zeroOf, oneOf, magnitude}
+use Rattle.algebra.specs.Outcome.{mapOutcome}
+use Rattle.derivatives.specs.declared.Series.{Series}
+use Rattle.derivatives.specs.declared.Function.{Function}
+use Rattle.derivatives.specs.declared.Plan.{Plan}
+use Rattle.derivatives.specs.declared.Plan.the-variants.{Refused, One, Same, Square, Chain, Quotient, SmallJ0, SmallJ1, SmallJ2, BesselJ0, BesselJ1, BesselJ2}
+use Rattle.derivatives.specs.Series.{recipSeries, sqrtSeries, lnSeries, atanSeries}
+use Rattle.derivatives.specs.Plan.{planOf}
+use Rattle.derivatives.specs.Apply.{chainBy, runPlan, applyOf, recipOf, sqrtOf, expOf, lnOf, sinOf, cosOf, atanOf, atan2Of, mulAddOf, powdOf, absSubOf, signumOf}
+
+-- a map of what is chosen is the choice of what is mapped
+cond-map : {R S : Type 0} (h : R → S) (b : Bool) (x y : R) → h (cond b x y) ≡ cond b (h x) (h y)
+cond-map h true x y = refl
+cond-map h false x y = refl
+
+module _ {R S : Type 0} {A : Algebra R} {B : Algebra S} {h : R → S} (k : Keeps A B h) where
+  pub plan-keeps : (x : R) (p : Plan) → mapOutcome h (runPlan A x p) ≡ runPlan B (h x) p
+  plan-keeps x (Refused n) = refl
+  plan-keeps x One = simp (k .fromRe)
+  plan-keeps x Same = refl
+  plan-keeps x Square = simp (k .mul)
+  plan-keeps x (Chain s) = simp (k .chain)
+  plan-keeps x (Quotient s t) = simp (k .div, k .chain)
+  plan-keeps x SmallJ0 = simp (k .sub, k .fromRe, k .divFloat, k .mul)
+  plan-keeps x SmallJ1 = simp (k .divFloat)
+  plan-keeps x SmallJ2 = simp (k .divFloat, k .mul)
+  plan-keeps x (BesselJ0 s) = simp (k .div, k .chain)
+  plan-keeps x (BesselJ1 s t) = simp (k .div, k .sub, k .mul, k .chain)
+  plan-keeps x (BesselJ2 s t) = simp (k .div, k .sub, k .mulFloat, k .mul, k .chain)
+
+  pub apply-keeps : (x : R) (f : Function) → mapOutcome h (applyOf A x f) ≡ applyOf B (h x) f
+  apply-keeps x f = rw (k .re x) (plan-keeps x (planOf (B .re (h x)) f))
+
+  pub recip-keeps : (x : R) → h (recipOf A x) ≡ recipOf B (h x)
+  recip-keeps x = simp (k .chain, k .re)
+
+  pub sqrt-keeps : (x : R) → h (sqrtOf A x) ≡ sqrtOf B (h x)
+  sqrt-keeps x = simp (k .chain, k .re)
+
+  pub exp-keeps : (x : R) (exp : Float) → h (expOf A x exp) ≡ expOf B (h x) exp
+  exp-keeps x exp = simp (k .chain)
+
+  pub ln-keeps : (x : R) (ln : Float) → h (lnOf A x ln) ≡ lnOf B (h x) ln
+  ln-keeps x ln = simp (k .chain, k .re)
+
+  pub sin-keeps : (x : R) (s c : Float) → h (sinOf A x s c) ≡ sinOf B (h x) s c
+  sin-keeps x s c = simp (k .chain)
+
+  pub cos-keeps : (x : R) (s c : Float) → h (cosOf A x s c) ≡ cosOf B (h x) s c
+  cos-keeps x s c = simp (k .chain)
+
+  pub atan2-keeps : (x y : R) (atan quadrant : Float) → h (atan2Of A x y atan quadrant) ≡ atan2Of B (h x) (h y) atan quadrant
+  atan2-keeps x y atan quadrant = simp (k .withRe, k .chain, k .re, k .div)
+
+  pub mul-add-keeps : (x a b : R) → h (mulAddOf A x a b) ≡ mulAddOf B (h x) (h a) (h b)
+  mul-add-keeps x a b = simp (k .add, k .mul)
+
+  pub powd-keeps : (x n : R) (ln exp : Float) → h (powdOf A x n ln exp) ≡ powdOf B (h x) (h n) ln exp
+  powd-keeps x n ln exp = simp (k .chain, k .re, k .mul)
+
+  pub abs-sub-keeps : (x y : R) → h (absSubOf A x y) ≡ absSubOf B (h x) (h y)
+  abs-sub-keeps x y = rw (cond-map h (lt (A .re y) (A .re x)) (A .sub x y) (zeroOf A), k .re x, k .re y, k .sub x y, k .fromRe zero)
+
+  pub signum-keeps : (x : R) → h (signumOf A x) ≡ signumOf B (h x)
+  signum-keeps x = rw (cond-map h (signOf (A .re x)) (cond (eq (A .re x) zero) (zeroOf A) (A .neg (oneOf A))) (oneOf A), cond-map h (eq (A .re x) zero) (zeroOf A) (A .neg (oneOf A)), k .re x, k .neg (oneOf A)) (simp (k .fromRe))

@@ -1,0 +1,96 @@
+-- What a record makes of a plan, over any record by its `Algebra`: written once for the five record types. Definitions only.
+use mathlib.Core.Bool.{cond}
+use lib.Ieee.{Float, lt, eq}
+use Rattle.real.specs.Operations.{zero, three, six, fifteen}
+use Rattle.real.specs.Sign.{signOf}
+use Rattle.algebra.specs.Algebra.{Algebra, zeroOf, oneOf}
+use Rattle.algebra.specs.Outcome.{Outcome, value, refused}
+use Rattle.derivatives.specs.declared.Series.{Series}
+use Rattle.derivatives.specs.declared.Function.{Function}
+use Rattle.derivatives.specs.declared.Plan.{Plan}
+use Rattle.derivatives.specs.declared.Plan.the-variants.{Refused, One, Same, Square, Chain, Quotient, SmallJ0, SmallJ1, SmallJ2, BesselJ0, BesselJ1, BesselJ2}
+use Rattle.derivatives.specs.Series.{recipSeries, sqrtSeries, expSeries, lnSeries, sinSeries, cosSeries, atanSeries}
+use Rattle.derivatives.specs.Plan.{planOf}
+
+module _ {R : Type 0} (A : Algebra R) where
+  -- the chain rule with the derivatives of s
+  abbrev pub chainBy : R → Series → R
+  chainBy x s = A .chain x (s .f0) (s .f1) (s .f2) (s .f3)
+
+  -- sph_j0 for small x: 1 - x * x / 6
+  abbrev pub smallJ0 : R → R
+  smallJ0 x = A .sub (oneOf A) (A .divFloat (A .mul x x) six)
+
+  -- sph_j2 for small x: x * x / 15
+  abbrev pub smallJ2 : R → R
+  smallJ2 x = A .divFloat (A .mul x x) fifteen
+
+  -- sph_j1 from the sine s and the cosine c of x: (s - x * c) / (x * x)
+  abbrev pub besselJ1 : R → R → R → R
+  besselJ1 x s c = A .div (A .sub s (A .mul x c)) (A .mul x x)
+
+  -- sph_j2 from the sine s and the cosine c of x: ((s - x * c) * 3 - s2 * s) / (s2 * x), where s2 = x * x
+  abbrev pub besselJ2 : R → R → R → R
+  besselJ2 x s c =
+      let s2 = A .mul x x in
+      A .div (A .sub (A .mulFloat (A .sub s (A .mul x c)) three) (A .mul s2 s)) (A .mul s2 x)
+
+  -- the outcome of a plan
+  abbrev pub runPlan : R → Plan → Outcome R
+  runPlan x (Refused n) = refused n
+  runPlan x One = value (oneOf A)
+  runPlan x Same = value x
+  runPlan x Square = value (A .mul x x)
+  runPlan x (Chain s) = value (chainBy x s)
+  runPlan x (Quotient s t) = value (A .div (chainBy x s) (chainBy x t))
+  runPlan x SmallJ0 = value (smallJ0 x)
+  runPlan x SmallJ1 = value (A .divFloat x three)
+  runPlan x SmallJ2 = value (smallJ2 x)
+  runPlan x (BesselJ0 s) = value (A .div (chainBy x s) x)
+  runPlan x (BesselJ1 s t) = value (besselJ1 x (chainBy x s) (chainBy x t))
+  runPlan x (BesselJ2 s t) = value (besselJ2 x (chainBy x s) (chainBy x t))
+
+  -- a request's outcome
+  abbrev pub applyOf : R → Function → Outcome R
+  applyOf x f = runPlan x (planOf (A .re x) f)
+
+  abbrev pub recipOf : R → R
+  recipOf x = chainBy x (recipSeries (A .re x))
+
+  abbrev pub sqrtOf : R → R
+  sqrtOf x = chainBy x (sqrtSeries (A .re x))
+
+  abbrev pub expOf : R → Float → R
+  expOf x exp = chainBy x (expSeries exp)
+
+  abbrev pub lnOf : R → Float → R
+  lnOf x ln = chainBy x (lnSeries (A .re x) ln)
+
+  abbrev pub sinOf : R → Float → Float → R
+  sinOf x s c = chainBy x (sinSeries s c)
+
+  abbrev pub cosOf : R → Float → Float → R
+  cosOf x s c = chainBy x (cosSeries s c)
+
+  abbrev pub atanOf : R → Float → R
+  atanOf x atan = chainBy x (atanSeries (A .re x) atan)
+
+  -- the arctangent of x / y, with the four-quadrant value as its real part
+  abbrev pub atan2Of : R → R → Float → Float → R
+  atan2Of x y atan quadrant = A .withRe (atanOf (A .div x y) atan) quadrant
+
+  -- x * a + b, two operations
+  abbrev pub mulAddOf : R → R → R → R
+  mulAddOf x a b = A .add (A .mul x a) b
+
+  -- x ^ n as exp(ln(x) * n), given ln at the real part of x, and exp at that of the product
+  abbrev pub powdOf : R → R → Float → Float → R
+  powdOf x n ln exp = expOf (A .mul (lnOf x ln) n) exp
+
+  -- x - y where x is above y, else zero
+  abbrev pub absSubOf : R → R → R
+  absSubOf x y = cond (lt (A .re y) (A .re x)) (A .sub x y) (zeroOf A)
+
+  -- one where the sign bit of re is clear; else zero where re is zero, else minus one
+  abbrev pub signumOf : R → R
+  signumOf x = cond (signOf (A .re x)) (cond (eq (A .re x) zero) (zeroOf A) (A .neg (oneOf A))) (oneOf A)

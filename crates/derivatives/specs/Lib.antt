@@ -1,0 +1,4 @@
+-- What the contracts of the elementary functions are written with: the series of each function, the plan of each request, and what a record makes of a plan. Definitions only.
+pub mod Series
+pub mod Plan
+pub mod Apply
