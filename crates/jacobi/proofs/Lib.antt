@@ -4,3 +4,5 @@ pub mod Carry
 pub mod Above
 -- the entry: its two ways out, slopes never steer
 pub mod Slopes
+-- functions of several calls
+mod Calls

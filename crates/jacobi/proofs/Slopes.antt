@@ -1,6 +1,6 @@
 -- The entry over any record: which facts a call that is not refused may take for granted; slopes never steer, and what stands below the diagonal has no effect.
 -- Assumes nothing.
-use Prim.Native.Nat.{ℕ, zero, suc, _+_, _*_, _≤_, _<_}
+use Prim.Native.Nat.{ℕ, zero, suc, _+_, _*_, _/_, _≤_, _<_}
 use mathlib.Core.Path.{_≡_, refl, ap, sym, _∙_}
 use mathlib.Core.Bool.{Bool, true, false, cond, _&&_}
 use mathlib.Core.List.{List, map}
@@ -38,13 +38,13 @@ some : (n : ℕ) → eqb n 0 ≡ false → 0 < n
 some zero e = absurd (eqb-false 0 0 e refl)
 some (suc n) e = omega arith
 
-pub record JacobiFits (w n a limit values vectors : ℕ) : Type 0 where
+pub record JacobiFits (w n a k d v : ℕ) : Type 0 where
   pub small : n ≤ 32
   pub some : 0 < n
   pub input : a ≡ n * n * w
-  pub values : values ≡ n * w
-  pub vectors : vectors ≡ n * n * w
-  pub limit : limit ≤ 1000
+  pub values : d ≡ n * w
+  pub vectors : v ≡ n * n * w
+  pub limit : k ≤ 1000
 
 pub jacobi-fits : (w n a limit values vectors : ℕ) → jacobiRefusal w n a limit values vectors ≡ 0 → JacobiFits w n a limit values vectors
 jacobi-fits w n a limit d v e =
@@ -94,7 +94,7 @@ module _ {R : Type 0} (A : Algebra R) (L : Layout R) (W : Lawful L) (G : Agrees 
       ap (A .re) (cell-record a r c e (omega arith) u) ∙ G .first _ ∙ h .parts r c 0 l u (omega arith) ∙ sym (ap (A .re) (cell-record b r c (sym (h .size) ∙ e) (omega arith) u) ∙ G .first _)
 
   sizes : (a b : List Float) → length a ≡ length b → length (decode L a) ≡ length (decode L b)
-  sizes a b e = decode-length L W a ∙ ap (λ (k : ℕ). k Prim.Native.Nat./ L .width) e ∙ sym (decode-length L W b)
+  sizes a b e = decode-length L W a ∙ ap (λ (k : ℕ). k / L .width) e ∙ sym (decode-length L W b)
 
   -- what stands below the diagonal has no effect at all
   pub below-no-effect : (a b : List Float) (limit : ℕ) (d v : List Float) → SameAbove (L .width) n (L .width) a b → jacobiLeft A L n a limit d v ≡ jacobiLeft A L n b limit d v
