@@ -1,7 +1,6 @@
 // LU column by column, and the product of the diagonal.
 use dual::Dual;
 use matrices::Step;
-
 ghost use mathlib.Core.Path.{_≡_};
 ghost use Prim.Native.Nat.{ℕ, _+_, _*_, _<_, _≤_};
 ghost use lib.ListN.{length, getD, set};

@@ -6,7 +6,6 @@ mod substitution;
 use dual::Dual;
 use dual::DualAnswer;
 use matrices::Step;
-
 ghost use mathlib.Core.Path.{_≡_};
 ghost use lib.ListN.{length};
 ghost use Rattle.algebra.specs.Flat.{decode};

@@ -1,6 +1,5 @@
 // Solve, and inverse column by column. The vector's element i is record i * stride + base of x: all of x (1, 0), or a column of a matrix (n, j).
 use dual::Dual;
-
 ghost use mathlib.Core.Path.{_≡_};
 ghost use Prim.Native.Nat.{ℕ, _+_, _*_, _<_, _≤_};
 ghost use lib.ListN.{length, getD, set};
@@ -24,7 +23,17 @@ fn less_product(v: Dual, a: &[f64], p: usize, x: &[f64], q: usize) -> Dual
 }
 
 // v less the products of row i with x, columns lo..hi.
-fn less_row(n: usize, a: &[f64], x: &[f64], stride: usize, base: usize, i: usize, lo: usize, hi: usize, v: Dual) -> Dual
+fn less_row(
+    n: usize,
+    a: &[f64],
+    x: &[f64],
+    stride: usize,
+    base: usize,
+    i: usize,
+    lo: usize,
+    hi: usize,
+    v: Dual,
+) -> Dual
     requires { ⌜ Square 2 n (now a) ⌝ }
     requires { ⌜ Strided 2 n stride base (now x) ⌝ }
     requires { ⌜ i < n ⌝ }

@@ -25,11 +25,11 @@ neg-requires c κs = search needs
 
 returns : tie.Need-returns
 unfolding determinantOf
-returns c =     rw (sym (odd-mod (c .before .before .before .before .args .swaps)) ∙ eq-eqb _ _ (c .before .if1 .taken)) (c .neg .ensures ∙ ap (dualAlgebra .neg) (c .before .before .diagonal-product .ensures))
+returns c = rw (sym (odd-mod (c .before .before .before .before .args .swaps)) ∙ eq-eqb _ _ (c .before .if1 .taken)) (c .neg .ensures ∙ ap (dualAlgebra .neg) (c .before .before .diagonal-product .ensures))
 
 returns-2 : tie.Need-returns-2
 unfolding determinantOf
-returns-2 c =     rw (sym (odd-mod (c .before .before .before .args .swaps)) ∙ ne-eqb _ _ (c .if1 .left)) (c .before .diagonal-product .ensures)
+returns-2 c = rw (sym (odd-mod (c .before .before .before .args .swaps)) ∙ ne-eqb _ _ (c .if1 .left)) (c .before .diagonal-product .ensures)
 
 pub determinant-of-spec : {M : Type 1} → statement M
 determinant-of-spec = tie.close (tie.spec diagonal-product-requires neg-requires returns returns-2)

@@ -65,7 +65,7 @@ returns c =
     let a = decode dualLayout (now (s .a)) in
     c .before .before .subtract-row .ensures
     ∙ ap (upto (s .i + 1) (s .n) (subtract dualAlgebra (s .n) (s .i) (s .j)))
-      (c .before .before .before .before .before .before .write .ensures ∙ ap (set a (s .j * s .n + s .i)) (c .before .before .before .before .before .before .before .before .div .ensures ∙ (λ t. dualAlgebra .div (c .before .before .before .before .before .before .before .before .before .before .before .read .ensures t) (c .before .before .before .before .before .before .before .before .before .read2 .ensures t))))
+    (c .before .before .before .before .before .before .write .ensures ∙ ap (set a (s .j * s .n + s .i)) (c .before .before .before .before .before .before .before .before .div .ensures ∙ (λ t. dualAlgebra .div (c .before .before .before .before .before .before .before .before .before .before .before .read .ensures t) (c .before .before .before .before .before .before .before .before .before .read2 .ensures t))))
 
 pub reduce-row-spec : {M : Type 1} → statement M
 reduce-row-spec =

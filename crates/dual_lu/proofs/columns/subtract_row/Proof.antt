@@ -75,7 +75,7 @@ loop-again c =
       from = omega arith;
       size = search needs;
       multiplier = ap (λ (m : List Dual). cell dualAlgebra (s .n) m (s .j) (s .i)) e ∙ multiplier-stays dualAlgebra (s .n) (s .i) (s .j) (at .loop .k) d (omega arith) ∙ at .loop .inv .multiplier;
-      rest = upto-turn (at .loop .k) (s .n) _ d _ (c .before .before .before .before .loop-test .taken) e (at .loop .inv .rest)
+      rest = upto-turn (at .loop .k) (s .n) _ d _ (c .before .before .before .before .loop-test .taken) e (at .loop .inv .rest);
     }
 
 same-length : tie.Need-same-length Inv-loop μ-loop

@@ -1,26 +1,39 @@
+use mathlib.Core.Path.{_≡_, refl, sym, ap, _∙_}
+use Prim.Native.Nat.{ℕ, _≤_, _<_, _-_, _+_, _*_}
+use denote.Ref.{now}
+use lib.ListN.{length, getD, set}
+use Rattle.algebra.specs.Algebra.{zeroOf}
+use Rattle.algebra.specs.Flat.{decode}
+use Rattle.algebra.specs.Loop.{upto}
+use Rattle.algebra.proofs.Loop.{upto-turn, upto-end}
+use Rattle.dual.specs.Rules.{dualAlgebra, dualLayout}
+use Rattle.matrices.specs.Matrix.{Square, cell}
+use Rattle.matrices.specs.Solve.{Strided, less, eliminate, forwardRow, forward, backRow, back, substitute, solveOf}
+use Rattle.matrices.proofs.Places.{Inside, inside, strided-keep, strided-whole, strided-column}
+use Rattle.dual.specs.declared.Dual.{Dual}
+use mathlib.Core.List.{List}
+use Rattle.dual_lu.proofs.Held.{held}
+use Rattle.matrices.specs.Order.{Order}
+use Rattle.matrices.proofs.Permutation.{order-below}
+use Rattle.matrices.specs.Inverse.{unit, inverseColumn, inverseOf}
 use borrow.Author.Needs.{needs}
 use Rattle.dual_lu.proofs.substitution.inverse_column.Statement.{statement}
 use Rattle.dual_lu.proofs.substitution.inverse_column.Tie as tie
-use Rattle.dual_lu.proofs.substitution.inverse_column.Reads as reads
-use Rattle.dual_lu.proofs.substitution.inverse_column.Lts as lts
-use Rattle.dual_lu.proofs.substitution.inverse_forward.Reads as inverse-forward-reads
-use Rattle.dual_lu.proofs.substitution.run_back.Reads as run-back-reads
 
--- src/substitution.rt:149:5
 inverse-forward-requires : tie.Need-inverse-forward-requires
-inverse-forward-requires c κs = search needs
+inverse-forward-requires c κs = (search needs, (search needs, search needs))
 
--- src/substitution.rt:150:5
 run-back-requires : tie.Need-run-back-requires
-run-back-requires c κs = ?
+run-back-requires c κs = (search needs, strided-keep (c .before .before .before .inverse-forward .last .1 .1 .1 .0) (search needs) (c .before .before .before .before .before .before .before .before .pre .1 .1))
 
--- src/substitution.rt:143:1
 same-length : tie.Need-same-length
 same-length c = search needs
 
--- src/substitution.rt:143:1
 returns : tie.Need-returns
-returns c = ?
+unfolding inverseColumn substitute
+returns c =
+    let s = c .before .before .before .before .before .before .before .before .before .before .before .args in
+    c .before .before .run-back .ensures ∙ ap (back dualAlgebra (s .n) (decode dualLayout (now (s .a))) (s .n) (s .j)) (c .before .before .before .before .before .before .inverse-forward .ensures)
 
 pub inverse-column-spec : {M : Type 1} → statement M
 inverse-column-spec =
