@@ -16,7 +16,7 @@ struct Answered {
     beside: u64,
 }
 
-fn answered(answer: LuAnswer) -> Answered {
+fn numbers_of(answer: LuAnswer) -> Answered {
     match answer {
         LuAnswer::Done { swaps } => Answered {
             number: 0,
@@ -48,7 +48,7 @@ fn lu_of(file: i32, buffer: &mut [u8; 4096], place: Place, a: &[f64], n: usize, 
     let mut factors = [7.0f64; 2048];
     let mut order = [7usize; 32];
     let full = matrices::floats_of(n);
-    let got = answered(dual_lu::lu(n, a, &mut factors[..full], &mut order[..n]));
+    let got = numbers_of(dual_lu::lu(n, a, &mut factors[..full], &mut order[..n]));
     let agree = got.number == number && got.beside == beside;
     if number == 0 {
         let rest = same_factors(file, buffer, place, &factors[..full], &order[..n]);
