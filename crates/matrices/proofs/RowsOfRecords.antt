@@ -1,7 +1,7 @@
 -- Rows exchanged float by float are rows exchanged record by record. Assumes nothing.
 use Prim.Native.Nat.{ℕ, _+_, _-_, _*_, _/_, _≤_, _<_}
 use mathlib.Core.Path.{_≡_, refl, ap, sym, _∙_}
-use mathlib.Core.List.{List, map}
+use mathlib.Core.List.{List}
 use native.Mathlib.Nat.{mul-le-mul-right, mul-assoc, add-mul}
 use native.Mathlib.Decide.{decLt}
 use native.Mathlib.Omega.{arith}
@@ -11,11 +11,10 @@ use lib.Ieee.{Float}
 use Rattle.real.specs.Operations as float
 use Rattle.algebra.specs.Algebra.{Algebra, RealParts, reals, zeroOf}
 use Rattle.algebra.specs.Flat.{Layout, Lawful, Agrees, realParts, recordAt, recordCount, decode}
-use Rattle.algebra.specs.Loop.{upto}
 use Rattle.algebra.proofs.Flat.{decode-length, decode-size, decode-at, decode-is, decode-reals, record-same}
 use Rattle.algebra.proofs.Loop.{upto-reach}
 use Rattle.matrices.specs.Matrix.{Square, exchange, exchangeRows}
-use Rattle.matrices.specs.Lu.{Run, going, bring, pivotOf, reduceRun, column}
+use Rattle.matrices.specs.Lu.{going, bring, pivotOf, reduceRun, column}
 use Rattle.matrices.specs.Steps.{runAfter}
 use Rattle.matrices.specs.declared.Step.{Step}
 use Rattle.matrices.specs.declared.Step.the-variants.{Singular, Going}

@@ -1,17 +1,12 @@
-use mathlib.Core.Path.{_≡_, refl, sym, ap, _∙_}
-use Prim.Native.Nat.{ℕ, _≤_, _<_, _-_, _+_, _*_}
+use mathlib.Core.Path.{sym, ap, _∙_}
+use Prim.Native.Nat.{_-_}
 use denote.Ref.{now}
-use lib.ListN.{length, getD, set}
-use Rattle.algebra.specs.Algebra.{zeroOf}
-use Rattle.algebra.specs.Flat.{decode}
-use Rattle.algebra.specs.Loop.{upto}
-use Rattle.algebra.proofs.Loop.{upto-turn, upto-end}
+use lib.ListN.{length}
+use borrow.Author.Needs.{needs}
 use Rattle.dual.specs.Rules.{dualAlgebra, dualLayout}
-use Rattle.matrices.proofs.Answers.{LuFits, lu-fits, lu-done, lu-refused, LentFits, solve-fits, solve-done, solve-refused, inverse-fits, inverse-done, inverse-refused, determinant-fits, determinant-done, determinant-refused, finish-done, finish-singular}
-use Rattle.dual.proofs.Flat.{dual-lawful}
+use Rattle.matrices.proofs.Answers.{determinant-fits, determinant-done, determinant-refused}
 use Rattle.algebra.specs.Outcome.{value}
 use Rattle.dual.specs.declared.Dual.{Dual}
-use borrow.Author.Needs.{needs}
 use Rattle.dual_lu.proofs.determinant.Statement.{statement}
 use Rattle.dual_lu.proofs.determinant.Tie as tie
 

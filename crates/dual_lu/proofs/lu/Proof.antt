@@ -1,22 +1,10 @@
-use mathlib.Core.Path.{_≡_, refl, sym, ap, _∙_}
-use Prim.Native.Nat.{ℕ, _≤_, _<_, _-_, _+_, _*_}
+use mathlib.Core.Path.{sym, _∙_}
+use Prim.Native.Nat.{_-_}
 use denote.Ref.{now}
-use lib.ListN.{length, getD, set}
-use Rattle.algebra.specs.Algebra.{zeroOf}
-use Rattle.algebra.specs.Flat.{decode}
-use Rattle.algebra.specs.Loop.{upto}
-use Rattle.algebra.proofs.Loop.{upto-turn, upto-end}
-use Rattle.dual.specs.Rules.{dualAlgebra, dualLayout}
-use mathlib.Core.List.{List}
-use lib.Ieee.{Float}
-use Rattle.matrices.specs.Matrix.{Square}
-use Rattle.matrices.specs.Lu.{going, numbers, reduceRun, column, luOf}
-use Rattle.matrices.specs.Steps.{runAfter, swapsOf}
-use Rattle.matrices.specs.declared.Step.{Step}
-use Rattle.dual.specs.declared.Dual.{Dual}
-use Rattle.matrices.proofs.Answers.{LuFits, lu-fits, lu-done, lu-refused, LentFits, solve-fits, solve-done, solve-refused, inverse-fits, inverse-done, inverse-refused, determinant-fits, determinant-done, determinant-refused, finish-done, finish-singular}
-use Rattle.dual.proofs.Flat.{dual-lawful}
+use lib.ListN.{length}
 use borrow.Author.Needs.{needs}
+use Rattle.dual.specs.Rules.{dualAlgebra, dualLayout}
+use Rattle.matrices.proofs.Answers.{LuFits, lu-fits, lu-done, lu-refused}
 use Rattle.dual_lu.proofs.lu.Statement.{statement}
 use Rattle.dual_lu.proofs.lu.Tie as tie
 

@@ -1,19 +1,10 @@
-use mathlib.Core.Path.{_≡_, refl, sym, ap, _∙_}
-use Prim.Native.Nat.{ℕ, _≤_, _<_, _-_, _+_, _*_}
-use denote.Ref.{now}
-use lib.ListN.{length, getD, set}
-use Rattle.algebra.specs.Algebra.{zeroOf}
-use Rattle.algebra.specs.Flat.{decode}
-use Rattle.algebra.specs.Loop.{upto}
-use Rattle.algebra.proofs.Loop.{upto-turn, upto-end}
-use Rattle.dual.specs.Rules.{dualAlgebra, dualLayout}
-use mathlib.Core.Bool.{Bool, true, false, cond}
-use Rattle.matrices.specs.Order.{isOdd}
-use Rattle.matrices.specs.Determinant.{diagonal, determinantOf}
-use Rattle.matrices.proofs.Odd.{odd-mod}
+use mathlib.Core.Path.{sym, ap, _∙_}
+use Prim.Native.Nat.{_-_}
 use borrow.Author.Tests.{eq-eqb, ne-eqb}
-use Rattle.dual.specs.declared.Dual.{Dual}
 use borrow.Author.Needs.{needs}
+use Rattle.dual.specs.Rules.{dualAlgebra}
+use Rattle.matrices.specs.Determinant.{determinantOf}
+use Rattle.matrices.proofs.Odd.{odd-mod}
 use Rattle.dual_lu.proofs.columns.determinant_of.Statement.{statement}
 use Rattle.dual_lu.proofs.columns.determinant_of.Tie as tie
 

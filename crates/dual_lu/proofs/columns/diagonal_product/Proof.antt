@@ -1,8 +1,7 @@
-use mathlib.Core.Path.{_≡_, refl, sym, ap, _∙_}
-use Prim.Native.Nat.{ℕ, _≤_, _<_, _-_, _+_, _*_}
-use denote.Ref.{now}
-use lib.ListN.{length, getD, set}
-use Rattle.algebra.specs.Algebra.{zeroOf}
+use mathlib.Core.Path.{_≡_, refl, ap, _∙_}
+use Prim.Native.Nat.{_≤_, _-_}
+use borrow.Author.Needs.{needs}
+use native.Mathlib.Omega.{arith}
 use Rattle.algebra.specs.Flat.{decode}
 use Rattle.algebra.specs.Loop.{upto}
 use Rattle.algebra.proofs.Loop.{upto-turn, upto-end}
@@ -10,8 +9,6 @@ use Rattle.dual.specs.Rules.{dualAlgebra, dualLayout}
 use Rattle.matrices.specs.Matrix.{cell}
 use Rattle.matrices.specs.Determinant.{diagonal}
 use Rattle.matrices.proofs.Places.{inside}
-use borrow.Author.Needs.{needs}
-use native.Mathlib.Omega.{arith}
 use Rattle.dual_lu.proofs.columns.diagonal_product.Statement.{statement}
 use Rattle.dual_lu.proofs.columns.diagonal_product.Tie as tie
 

@@ -1,21 +1,19 @@
-use mathlib.Core.Path.{_≡_, refl, sym, ap, _∙_}
-use Prim.Native.Nat.{ℕ, _≤_, _<_, _-_, _+_, _*_}
+use mathlib.Core.Path.{ap, _∙_}
+use Prim.Native.Nat.{_-_, _+_, _*_}
 use denote.Ref.{now}
-use lib.ListN.{length, getD, set}
-use Rattle.algebra.specs.Algebra.{zeroOf}
+use lib.ListN.{set}
+use mathlib.Core.List.{List}
+use borrow.Author.Needs.{needs}
+use native.Mathlib.Omega.{arith}
 use Rattle.algebra.specs.Flat.{decode}
 use Rattle.algebra.specs.Loop.{upto}
-use Rattle.algebra.proofs.Loop.{upto-turn, upto-end}
 use Rattle.dual.specs.Rules.{dualAlgebra, dualLayout}
 use Rattle.matrices.specs.Matrix.{cell, store}
 use Rattle.matrices.specs.Lu.{subtract, reduceRow}
 use Rattle.matrices.proofs.Inner.{multiplier-is}
 use Rattle.matrices.proofs.Places.{Inside, inside}
-use mathlib.Core.List.{List}
 use Rattle.dual.specs.declared.Dual.{Dual}
 use Rattle.dual_lu.proofs.Held.{held}
-use borrow.Author.Needs.{needs}
-use native.Mathlib.Omega.{arith}
 use Rattle.dual_lu.proofs.columns.reduce_row.Statement.{statement}
 use Rattle.dual_lu.proofs.columns.reduce_row.Tie as tie
 

@@ -1,15 +1,12 @@
-use mathlib.Core.Path.{_≡_, refl, sym, ap, _∙_}
-use Prim.Native.Nat.{ℕ, _≤_, _<_, _-_, _+_, _*_}
-use denote.Ref.{now}
-use lib.ListN.{length, getD, set}
-use Rattle.algebra.specs.Algebra.{zeroOf}
+use mathlib.Core.Path.{_≡_, refl}
+use Prim.Native.Nat.{_-_}
+use lib.ListN.{length}
+use borrow.Author.Needs.{needs}
 use Rattle.algebra.specs.Flat.{decode}
 use Rattle.algebra.specs.Loop.{upto}
 use Rattle.algebra.proofs.Loop.{upto-turn, upto-end}
 use Rattle.dual.specs.Rules.{dualAlgebra, dualLayout}
-use Rattle.matrices.specs.Matrix.{Square}
 use Rattle.matrices.specs.Lu.{reduceRow, reduce}
-use borrow.Author.Needs.{needs}
 use Rattle.dual_lu.proofs.columns.reduce_rows.Statement.{statement}
 use Rattle.dual_lu.proofs.columns.reduce_rows.Tie as tie
 

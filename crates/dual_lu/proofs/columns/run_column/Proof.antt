@@ -1,24 +1,18 @@
-use mathlib.Core.Path.{_≡_, refl, sym, ap, _∙_}
-use Prim.Native.Nat.{ℕ, _≤_, _<_, _-_, _+_, _*_}
+use mathlib.Core.Path.{_≡_, sym, ap, _∙_}
+use Prim.Native.Nat.{_-_}
 use denote.Ref.{now}
-use lib.ListN.{length, getD, set}
-use Rattle.algebra.specs.Algebra.{zeroOf}
-use Rattle.algebra.specs.Flat.{decode}
-use Rattle.algebra.specs.Loop.{upto}
-use Rattle.algebra.proofs.Loop.{upto-turn, upto-end}
-use Rattle.dual.specs.Rules.{dualAlgebra, dualLayout}
 use mathlib.Core.List.{List}
-use lib.Ieee.{Float}
-use Rattle.matrices.specs.Matrix.{Square}
-use Rattle.matrices.specs.Lu.{going, numbers, reduceRun, column, luOf}
+use borrow.Author.Needs.{needs}
+use native.Mathlib.Omega.{arith}
+use Rattle.algebra.specs.Flat.{decode}
+use Rattle.dual.specs.Rules.{dualAlgebra, dualLayout}
+use Rattle.matrices.specs.Lu.{going, reduceRun, column}
 use Rattle.matrices.specs.Steps.{runAfter, swapsOf}
 use Rattle.matrices.specs.declared.Step.{Step}
 use Rattle.dual.specs.declared.Dual.{Dual}
 use Rattle.matrices.proofs.RowsOfRecords.{column-by}
 use Rattle.dual.proofs.Flat.{dual-lawful, dual-agrees}
 use Rattle.dual.proofs.RealParts.{dual-reals}
-use borrow.Author.Needs.{needs}
-use native.Mathlib.Omega.{arith}
 use Rattle.dual_lu.proofs.columns.run_column.Statement.{statement}
 use Rattle.dual_lu.proofs.columns.run_column.Tie as tie
 

@@ -1,23 +1,21 @@
-use mathlib.Core.Path.{_≡_, refl, sym, ap, _∙_}
-use Prim.Native.Nat.{ℕ, _≤_, _<_, _-_, _+_, _*_}
+use mathlib.Core.Path.{_≡_, sym, ap, _∙_}
+use Prim.Native.Nat.{ℕ, _≤_, _-_}
 use denote.Ref.{now}
-use lib.ListN.{length, getD, set}
-use Rattle.algebra.specs.Algebra.{zeroOf}
+use lib.ListN.{length}
+use mathlib.Core.List.{List}
+use lib.Ieee.{Float}
+use borrow.Author.Needs.{needs}
+use native.Mathlib.Omega.{arith}
 use Rattle.algebra.specs.Flat.{decode}
 use Rattle.algebra.specs.Loop.{upto}
 use Rattle.algebra.proofs.Loop.{upto-turn, upto-end}
 use Rattle.dual.specs.Rules.{dualAlgebra, dualLayout}
-use mathlib.Core.List.{List}
-use lib.Ieee.{Float}
 use Rattle.matrices.specs.Matrix.{Square}
-use Rattle.matrices.specs.Lu.{going, numbers, reduceRun, column, luOf}
+use Rattle.matrices.specs.Lu.{going, column, luOf}
 use Rattle.matrices.specs.Steps.{runAfter, swapsOf}
 use Rattle.matrices.specs.declared.Step.{Step}
-use Rattle.dual.specs.declared.Dual.{Dual}
 use Rattle.matrices.proofs.Lu.{run-stops}
 use Rattle.algebra.proofs.Flat.{tabulate-length}
-use borrow.Author.Needs.{needs}
-use native.Mathlib.Omega.{arith}
 use Rattle.dual_lu.proofs.columns.run_columns.Statement.{statement}
 use Rattle.dual_lu.proofs.columns.run_columns.Tie as tie
 

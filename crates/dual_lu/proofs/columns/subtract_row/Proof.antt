@@ -1,21 +1,19 @@
-use mathlib.Core.Path.{_≡_, refl, sym, ap, _∙_}
-use Prim.Native.Nat.{ℕ, _≤_, _<_, _-_, _+_, _*_}
-use denote.Ref.{now}
-use lib.ListN.{length, getD, set}
-use Rattle.algebra.specs.Algebra.{zeroOf}
+use mathlib.Core.Path.{_≡_, refl, ap, _∙_}
+use Prim.Native.Nat.{ℕ, _≤_, _-_, _+_}
+use lib.ListN.{length}
+use mathlib.Core.List.{List}
+use lib.Ieee.{Float}
+use borrow.Author.Needs.{needs}
+use native.Mathlib.Omega.{arith}
 use Rattle.algebra.specs.Flat.{decode}
 use Rattle.algebra.specs.Loop.{upto}
 use Rattle.algebra.proofs.Loop.{upto-turn, upto-end}
 use Rattle.dual.specs.Rules.{dualAlgebra, dualLayout}
-use mathlib.Core.List.{List}
-use lib.Ieee.{Float}
 use Rattle.matrices.specs.Matrix.{Square, cell}
 use Rattle.matrices.specs.Lu.{subtract}
 use Rattle.matrices.proofs.Inner.{subtract-by, multiplier-stays}
 use Rattle.dual.specs.declared.Dual.{Dual}
 use Rattle.matrices.proofs.Places.{inside}
-use borrow.Author.Needs.{needs}
-use native.Mathlib.Omega.{arith}
 use Rattle.dual_lu.proofs.columns.subtract_row.Statement.{statement}
 use Rattle.dual_lu.proofs.columns.subtract_row.Tie as tie
 

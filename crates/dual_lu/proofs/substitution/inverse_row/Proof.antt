@@ -1,23 +1,14 @@
-use mathlib.Core.Path.{_≡_, refl, sym, ap, _∙_}
-use Prim.Native.Nat.{ℕ, _≤_, _<_, _-_, _+_, _*_}
+use mathlib.Core.Path.{ap, _∙_}
+use Prim.Native.Nat.{_-_, _+_, _*_}
 use denote.Ref.{now}
-use lib.ListN.{length, getD, set}
-use Rattle.algebra.specs.Algebra.{zeroOf}
-use Rattle.algebra.specs.Flat.{decode}
-use Rattle.algebra.specs.Loop.{upto}
-use Rattle.algebra.proofs.Loop.{upto-turn, upto-end}
-use Rattle.dual.specs.Rules.{dualAlgebra, dualLayout}
-use Rattle.matrices.specs.Matrix.{Square, cell}
-use Rattle.matrices.specs.Solve.{Strided, less, eliminate, forwardRow, forward, backRow, back, substitute, solveOf}
-use Rattle.matrices.proofs.Places.{Inside, inside, strided-keep, strided-whole, strided-column}
-use Rattle.dual.specs.declared.Dual.{Dual}
-use mathlib.Core.List.{List}
-use Rattle.dual_lu.proofs.Held.{held}
-use Rattle.matrices.specs.Order.{Order}
-use Rattle.matrices.proofs.Permutation.{order-below}
-use Rattle.matrices.specs.Inverse.{unit}
+use lib.ListN.{set}
 use borrow.Author.Needs.{needs}
 use native.Mathlib.Omega.{arith}
+use Rattle.algebra.specs.Flat.{decode}
+use Rattle.algebra.specs.Loop.{upto}
+use Rattle.dual.specs.Rules.{dualAlgebra, dualLayout}
+use Rattle.matrices.specs.Solve.{eliminate, forwardRow}
+use Rattle.dual.specs.declared.Dual.{Dual}
 use Rattle.dual_lu.proofs.substitution.inverse_row.Statement.{statement}
 use Rattle.dual_lu.proofs.substitution.inverse_row.Tie as tie
 

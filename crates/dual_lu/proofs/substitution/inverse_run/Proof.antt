@@ -1,27 +1,19 @@
-use mathlib.Core.Path.{_≡_, refl, sym, ap, _∙_}
-use Prim.Native.Nat.{ℕ, _≤_, _<_, _-_, _+_, _*_}
+use mathlib.Core.Path.{_≡_, refl, ap, _∙_}
+use Prim.Native.Nat.{ℕ, _≤_, _-_, _*_}
 use denote.Ref.{now}
-use lib.ListN.{length, getD, set}
-use Rattle.algebra.specs.Algebra.{zeroOf}
+use lib.ListN.{length, replicate}
+use borrow.Author.Needs.{needs}
+use native.Mathlib.Omega.{arith}
 use Rattle.algebra.specs.Flat.{decode}
 use Rattle.algebra.specs.Loop.{upto}
 use Rattle.algebra.proofs.Loop.{upto-turn, upto-end}
 use Rattle.dual.specs.Rules.{dualAlgebra, dualLayout}
-use Rattle.matrices.specs.Matrix.{Square, cell}
-use Rattle.matrices.specs.Solve.{Strided, less, eliminate, forwardRow, forward, backRow, back, substitute, solveOf}
-use Rattle.matrices.proofs.Places.{Inside, inside, strided-keep, strided-whole, strided-column}
-use Rattle.dual.specs.declared.Dual.{Dual}
-use mathlib.Core.List.{List}
-use Rattle.dual_lu.proofs.Held.{held}
-use Rattle.matrices.specs.Order.{Order}
-use Rattle.matrices.proofs.Permutation.{order-below}
-use Rattle.matrices.specs.Inverse.{unit, inverseColumn, inverseOf}
-use lib.ListN.{replicate}
+use Rattle.matrices.specs.Matrix.{Square}
+use Rattle.matrices.proofs.Places.{strided-column}
+use Rattle.matrices.specs.Inverse.{inverseColumn, inverseOf}
 use Rattle.real.specs.Operations.{zero}
 use Rattle.algebra.proofs.Flat.{decode-blank}
 use Rattle.dual.proofs.Flat.{dual-lawful, dual-agrees}
-use borrow.Author.Needs.{needs}
-use native.Mathlib.Omega.{arith}
 use Rattle.dual_lu.proofs.substitution.inverse_run.Statement.{statement}
 use Rattle.dual_lu.proofs.substitution.inverse_run.Tie as tie
 

@@ -1,5 +1,5 @@
 use borrow.Author.Tests.{eq-eqb, ne-eqb}
-use mathlib.Core.Path.{_≡_, refl}
+use mathlib.Core.Path.{refl}
 use Rattle.dual_lu.proofs.substitution.unit_record.Statement.{statement}
 use Rattle.dual_lu.proofs.substitution.unit_record.Tie as tie
 

@@ -1,16 +1,14 @@
-use mathlib.Core.Path.{_≡_, refl, sym, ap, _∙_}
-use Prim.Native.Nat.{ℕ, _≤_, _-_, _+_}
-use denote.Ref.{now}
+use mathlib.Core.Path.{_≡_, refl}
+use Prim.Native.Nat.{ℕ, _≤_, _-_, _+_, _*_, _<_}
 use lib.ListN.{length, getD, set, length-set}
 use lib.Ieee.{Float, nan}
 use mathlib.Core.List.{List}
+use native.Mathlib.Omega.{arith}
 use Rattle.real.specs.Operations.{zero}
 use Rattle.algebra.specs.Loop.{upto}
 use Rattle.algebra.proofs.Loop.{upto-turn, upto-end}
-use Prim.Native.Nat.{_*_, _<_}
 use Rattle.matrices.specs.Matrix.{exchange, exchangeRows}
 use Rattle.algebra.proofs.Inside.{getD-inside}
-use native.Mathlib.Omega.{arith}
 use Rattle.matrices.proofs.rows.exchange_rows.Statement.{statement}
 use Rattle.matrices.proofs.rows.exchange_rows.Tie as tie
 

@@ -1,36 +1,18 @@
 use mathlib.Core.Path.{_≡_, refl, sym, ap, _∙_}
-use Prim.Native.Nat.{ℕ, _≤_, _-_, _+_}
+use Prim.Native.Nat.{ℕ, _≤_, _-_, _+_, _*_, _<_}
 use denote.Ref.{now}
-use Prim.Native.Nat.{_*_, _<_}
 use lib.ListN.{length, getD}
 use lib.Ieee.{Float, nan}
-use Rattle.real.specs.Operations.{zero}
-use Rattle.algebra.specs.Algebra.{reals}
-use Rattle.algebra.specs.Flat.{realParts}
-use Rattle.algebra.specs.Loop.{upto}
-use Rattle.algebra.proofs.Loop.{upto-turn, upto-end}
-use Rattle.matrices.specs.Matrix.{cell, Square}
-use Rattle.matrices.specs.Lu.{better, pivotOf}
-use Rattle.matrices.proofs.Places.{walk, real-cell}
-use Rattle.algebra.proofs.Inside.{getD-inside}
-use Rattle.matrices.specs.declared.Pivot.{Pivot}
 use borrow.Author.Needs.{needs}
 use native.Mathlib.Omega.{arith}
-use mathlib.Core.Path.{_≡_, refl, sym, ap, _∙_}
-use Prim.Native.Nat.{ℕ, _≤_, _-_, _+_}
-use denote.Ref.{now}
-use Prim.Native.Nat.{_*_, _<_}
-use native.Mathlib.Nat.{mul-le-mul, mul-le-mul-right}
-use lib.ListN.{length, getD}
-use lib.Ieee.{Float, nan}
 use Rattle.real.specs.Operations.{zero}
 use Rattle.algebra.specs.Algebra.{reals}
 use Rattle.algebra.specs.Flat.{realParts}
 use Rattle.algebra.specs.Loop.{upto}
 use Rattle.algebra.proofs.Loop.{upto-turn, upto-end}
-use Rattle.matrices.specs.Matrix.{cell, Square}
+use Rattle.matrices.specs.Matrix.{cell}
 use Rattle.matrices.specs.Lu.{better, pivotOf}
-use Rattle.matrices.proofs.Places.{Few, few, real-cell}
+use Rattle.matrices.proofs.Places.{walk, real-cell}
 use Rattle.algebra.proofs.Inside.{getD-inside}
 use Rattle.matrices.proofs.rows.find_pivot.Statement.{statement}
 use Rattle.matrices.proofs.rows.find_pivot.Tie as tie
