@@ -19,7 +19,7 @@ same-length c = search needs
 
 returns : tie.Need-returns
 unfolding identity
-returns c = 
+returns c =
     let s = c .before .before .before .before .before .before .before .before .before in
     let n = s .args .n in
     let p = c .before .before .put-ones .ensures in

@@ -34,12 +34,11 @@ same-length-5 c = search needs
 
 returns : tie.Need-returns
 unfolding start
-returns c = 
+returns c =
     let s = c .before .before .before .before .before .before .before .before .before .before .before .before .before .before .before .before .before .before .before .before .before .before .before .before .pre in
     let w = c .before .before .before .before .before .before .before .before .before .before .before .before .before .before .before .before .copy .ensures in
     let v = c .before .before .before .before .before .before .before .before .before .before .before .before .identity .ensures in
-    let t = c .before .before .before .before .before .before .start-sums .ensures in
-    (
+    let t = c .before .before .before .before .before .before .start-sums .ensures in (
       record { matrix = square-copy _ _ _ (s .0) w; vectors = v .0; values = omega arith; gains = omega arith },
       (λ i. going (work (records (w i)) (v .1 i) (t .0 i) (t .1 .1 i) 0) (t .1 .0 i) 0),
     )

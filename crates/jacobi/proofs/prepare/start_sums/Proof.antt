@@ -32,7 +32,7 @@ same-length-3 c = search needs
 
 returns : tie.Need-returns
 unfolding diagonal
-returns c = 
+returns c =
     let s = c .before .before .before .before .before .before .before .before .before .before .before .before .before .before .before .before .before .before .before .before .before in
     let n = s .args .n in
     let d = c .before .before .before .before .before .before .before .before .before .before .before .put-diagonal .ensures ∙ ap (upto 0 n (putDiagonal dualAlgebra n (records (now (s .args .a))))) (blank n _ _ (s .pre .1 .0) (c .before .before .before .before .before .before .before .before .before .before .before .before .before .before .before .clear .ensures)) in

@@ -26,7 +26,7 @@ same-length-3 : tie.Need-same-length-3
 same-length-3 c = search needs
 
 returns-2 : tie.Need-returns-2
-returns-2 c = 
+returns-2 c =
     let v = c .before .before .exchange-columns .ensures in
     (v .0, select-moves dualAlgebra _ _ _ _ _ _ (c .before .before .before .before .before .before .before .before .before .least .ensures .0) (c .before .before .before .before .before .before .before .before .if1 .left) (c .before .before .before .before .before .before .exchange .ensures) (v .1))
 

@@ -24,7 +24,7 @@ same-length-3 : tie.Need-same-length-3
 same-length-3 c = search needs
 
 returns : tie.Need-returns
-returns c = 
+returns c =
     let s = c .before .before .before .before .before .before .before .before .before .before .before .before .before .before .before .before .before in
     let sums = c .before .before .before .before .before .before .before .before .before .before .before .add-all .ensures in
     (sums, (ap records (c .before .before .before .before .before .before .copy .ensures) ∙ sums, blank (s .args .n) _ _ (s .pre .0 .0) (c .before .before .clear .ensures)))

@@ -36,12 +36,11 @@ same-length-6 : tie.Need-same-length-6
 same-length-6 c = search needs
 
 returns-2 : tie.Need-returns-2
-returns-2 c = 
+returns-2 c =
     let s = c .before .before .before .before .before .before .before .before .before .before .before .before .before .before .before .before .before .before .sweep .ensures in
     let d = s .0 .values in
     let zw = s .0 .gains in
-    let e = c .before .before .before .before .before .before .close-sweep .ensures in
-    (
+    let e = c .before .before .before .before .before .before .close-sweep .ensures in (
       record { matrix = s .0 .matrix; vectors = s .0 .vectors; values = omega arith; gains = omega arith },
       (step-sweeps dualAlgebra _ _ _ _ _ _ (c .before .before .before .before .before .before .before .before .before .before .before .before .before .before .before .before .before .before .before .before .before .before .before .before .threshold .ensures) (c .before .before .before .before .before .before .before .before .before .before .before .before .before .before .before .before .before .before .before .before .before .before .before .if1 .left) _ _ _ _ _ _ _ _ (s .1 .0) (e .0) (e .1 .0) (e .1 .1), s .1 .1),
     )

@@ -30,7 +30,7 @@ loop-less : tie.Need-loop-less Inv-loop μ-loop
 loop-less c = search needs
 
 loop-again : tie.Need-loop-again Inv-loop μ-loop
-loop-again c = 
+loop-again c =
     let at = c .before .before in
     (omega arith, upto-turn (at .loop .j) _ _ (at .loop .sum) _ (c .before .loop-test .taken) (c .column-squares .ensures) (at .loop .inv .1))
 

@@ -51,11 +51,11 @@ same-length-5 : tie.Need-same-length-5 Inv-loop μ-loop
 same-length-5 c = search needs
 
 returns : tie.Need-returns Inv-loop μ-loop
-returns c = 
+returns c =
     let at = c .before .before .before .before .before .before .before .before .before .before .before .before .before .before .before .before .before .before .before in
     let s = c .before .before .before .before .before .before .before .before .before .before .before .before .step in
     let e = ap (λ (x : Step). runAfter x (s .last .1 .0) (s .last .1 .1 .0) (s .last .1 .1 .1 .0) (s .last .1 .1 .1 .1 .0) (s .last .1 .1 .1 .1 .1 .0) (at .loop .rotations) (at .loop .it-num)) (c .enum-told .given .1) in
-    ap ended (run-settles dualAlgebra _ (at .loop .it-num) _ (runOf (at .loop .a) (at .loop .v) (at .loop .d) (at .loop .zw) (at .loop .bw) (at .loop .rotations) (at .loop .it-num)) _ _ _ (c .before .before .before .before .before .before .before .before .before .before .before .before .before .before .before .before .before .before .loop-test .taken) (sym e ∙ s .ensures .1 .0) (at .loop .inv .1 .1 .1))
+    (s .ensures .0, ap ended (run-settles dualAlgebra _ (at .loop .it-num) _ (runOf (at .loop .a) (at .loop .v) (at .loop .d) (at .loop .zw) (at .loop .bw) (at .loop .rotations) (at .loop .it-num)) _ _ _ (c .before .before .before .before .before .before .before .before .before .before .before .before .before .before .before .before .before .before .loop-test .taken) (sym e ∙ s .ensures .1 .0) (at .loop .inv .1 .1 .1)))
 
 add-it-num : tie.Need-add-it-num Inv-loop μ-loop
 add-it-num c = let at = c .before .before .before .before .before .before .before .before .before .before .before .before .before .before .before .before .before .before .before .before in let h = c .before .before .before .before .before .before .before .before .before .before .before .before .before .before .before .before .before .before .before .loop-test .taken in let l = at .before .before .before .before .before .before .pre .1 .1 in omega arith
@@ -64,15 +64,14 @@ loop-less : tie.Need-loop-less Inv-loop μ-loop
 loop-less c = let h = c .before .before .before .before .before .before .before .before .before .before .before .before .before .before .before .before .before .before .before .loop-test .taken in omega arith
 
 loop-again : tie.Need-loop-again Inv-loop μ-loop
-loop-again c = 
+loop-again c =
     let at = c .before .before .before .before .before .before .before .before .before .before .before .before .before .before .before .before .before .before .before .before in
     let s = c .before .before .before .before .before .before .before .before .before .before .before .before .before .step in
     let i = at .loop .inv .0 in
     let l = at .loop .inv .1 .0 in
     let h = c .before .before .before .before .before .before .before .before .before .before .before .before .before .before .before .before .before .before .before .loop-test .taken in
     let more = s .ensures .1 .1 in
-    let e = ap (λ (x : Step). runAfter x (s .last .1 .0) (s .last .1 .1 .0) (s .last .1 .1 .1 .0) (s .last .1 .1 .1 .1 .0) (s .last .1 .1 .1 .1 .1 .0) (at .loop .rotations) (at .loop .it-num)) (c .before .s .given .1) in
-    (
+    let e = ap (λ (x : Step). runAfter x (s .last .1 .0) (s .last .1 .1 .0) (s .last .1 .1 .1 .0) (s .last .1 .1 .1 .1 .0) (s .last .1 .1 .1 .1 .1 .0) (at .loop .rotations) (at .loop .it-num)) (c .before .s .given .1) in (
       omega (arith, ap rotationsOf (c .before .s .given .1)),
       (omega arith, (s .ensures .0, upto-turn (at .loop .it-num) _ _ (runOf (at .loop .a) (at .loop .v) (at .loop .d) (at .loop .zw) (at .loop .bw) (at .loop .rotations) (at .loop .it-num)) _ h (sym e ∙ s .ensures .1 .0) (at .loop .inv .1 .1 .1))),
     )
@@ -93,11 +92,11 @@ same-length-10 : tie.Need-same-length-10 Inv-loop μ-loop
 same-length-10 c = omega arith
 
 returns-2 : tie.Need-returns-2 Inv-loop μ-loop
-returns-2 c = 
+returns-2 c =
     let at = c .before .loop in
     let i = at .inv .0 in
     let h = c .loop-test .left in
-    ap (λ (k : ℕ). eigen (records (at .d)) (records (at .v)) k (at .rotations) false) (omega arith) ∙ ap ended (upto-end (at .it-num) _ _ _ h (at .inv .1 .1 .1))
+    (at .inv .1 .1 .0, ap (λ (k : ℕ). eigen (records (at .d)) (records (at .v)) k (at .rotations) false) (omega arith) ∙ ap ended (upto-end (at .it-num) _ _ _ h (at .inv .1 .1 .1)))
 
 pub sweeps-spec : {M : Type 1} → statement M
 sweeps-spec =
