@@ -1,7 +1,5 @@
 //! The original's answers to requests for records, and what it called from outside.
-use crate::functions::{
-    self, Argument, Description, Extra, Function, argument_words, evaluate,
-};
+use crate::functions::{self, Argument, Description, Extra, Function, argument_words, evaluate};
 use crate::pool::Pool;
 use crate::record::{Kind, Record};
 use crate::requests::Request;
@@ -70,8 +68,8 @@ fn answer<K: Kind>(
     argument: Argument,
     values: &[(Outside, f64)],
 ) -> (Answer, Vec<Call>) {
-    let refused = description.function == Function::Powi
-        && !(-1024..=1024).contains(&argument.exponent);
+    let refused =
+        description.function == Function::Powi && !(-1024..=1024).contains(&argument.exponent);
     if refused {
         let words = vec![0; description.answer_words(K::PARTS)];
         return (Answer { number: EXPONENT_REFUSED, words }, vec![]);
@@ -92,12 +90,7 @@ fn over<F: crate::record::Part, R: Record<F>>(
     evaluate::<F, R>(function, &records, argument)
 }
 
-fn check_calls(
-    description: &Description,
-    calls: &[Call],
-    parts: &[Vec<f64>],
-    argument: Argument,
-) {
+fn check_calls(description: &Description, calls: &[Call], parts: &[Vec<f64>], argument: Argument) {
     let (function, listed) = (description.function, description.outside());
     for call in calls {
         let called = argument_words(&call.arguments);

@@ -45,7 +45,11 @@ macro_rules! functions {
             function: Function::$function,
             name: $name,
             records: $records,
-            extras: { use Extra::*; use Outside::*; let _ = (Float, Exp); &[$($extra),*] },
+            extras: {
+                #[allow(unused_imports)]
+                use {Extra::*, Outside::*};
+                &[$($extra),*]
+            },
             shape: Shape::$shape,
         }),*];
     };

@@ -16,7 +16,7 @@ pub const INFINITY: u8 = 12;
 /// Zeros, ones, the ends of the number line, both sides of 2^-52 and of 1, squares that vanish or
 /// overflow, and the places where outside functions turn.
 #[rustfmt::skip]
-const EDGE_WORDS: [u64; 64] = [
+pub const EDGE_WORDS: [u64; 64] = [
     0x0000000000000000, 0x8000000000000000, 0x3ff0000000000000, 0xbff0000000000000, // 0, 1
     0x0000000000000001, 0x8000000000000001, 0x000fffffffffffff, 0x800fffffffffffff, // subnormal
     0x0010000000000000, 0x8010000000000000, 0x7fefffffffffffff, 0xffefffffffffffff, // normal ends

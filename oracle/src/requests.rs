@@ -13,16 +13,8 @@ pub struct Request {
     pub supplied: Option<Vec<f64>>,
 }
 
-/// Of so many cases, three tenths are with arbitrary values from outside.
-pub fn own_cases(description: &Description, cases: usize) -> usize {
-    match (description.outside().is_empty(), description.records, description.extras.len()) {
-        (true, 0, 0) => 1,
-        (true, _, _) => cases,
-        (false, _, _) => cases - cases * 3 / 10,
-    }
-}
-
-/// All requests for one function: edges first, then random.
+/// All requests for one function: edges first, then random; where something comes from outside,
+/// the last three tenths carry arbitrary values. A constant has one case.
 pub fn requests(
     random: &mut Random,
     pool: &Pool,
@@ -30,10 +22,11 @@ pub fn requests(
     parts: usize,
     cases: usize,
 ) -> Vec<Request> {
-    let own = own_cases(description, cases);
-    let total = if own == 1 { 1 } else { cases };
+    let constant = description.records == 0 && description.extras.is_empty();
+    let cases = if constant { 1 } else { cases };
+    let own = if description.outside().is_empty() { cases } else { cases - cases * 3 / 10 };
     let mut maker = Maker { random, pool, description, parts };
-    (0..total).map(|i| maker.request(i, i < own)).collect()
+    (0..cases).map(|i| maker.request(i, i < own)).collect()
 }
 
 struct Maker<'a> {
@@ -78,10 +71,13 @@ impl Maker<'_> {
                     Pool::place(self.random, pool::UNIT)
                 }
                 Function::Acosh => self.pool.apt(self.random, |x| x > 1.0),
-                Function::Ln | Function::Log | Function::Log2 | Function::Log10
-                | Function::Powf | Function::Powd | Function::Sqrt => {
-                    self.pool.apt(self.random, |x| x > 0.0)
-                }
+                Function::Ln
+                | Function::Log
+                | Function::Log2
+                | Function::Log10
+                | Function::Powf
+                | Function::Powd
+                | Function::Sqrt => self.pool.apt(self.random, |x| x > 0.0),
                 _ => self.pool.apt(self.random, |_| true),
             },
         }

@@ -13,8 +13,7 @@ pub fn all(run: Run) -> Answers {
         floats.extend(round(&mut random));
     }
     floats.truncate(run.cases * 10);
-    let cases: Vec<String> =
-        floats.iter().map(|x| hex_line(&[word(*x), word(x.sqrt())])).collect();
+    let cases: Vec<String> = floats.iter().map(|x| hex_line(&[word(*x), word(x.sqrt())])).collect();
     let counts = vec![("root".to_string(), cases.len())];
     Answers { name, about: "The square root.".to_string(), before: vec![], cases, counts }
 }

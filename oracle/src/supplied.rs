@@ -70,10 +70,7 @@ thread_local! {
 }
 
 /// Runs `work` with these values supplied; its result, and the calls that it made.
-pub fn with_supplied<R>(
-    values: &[(Outside, f64)],
-    work: impl FnOnce() -> R,
-) -> (R, Vec<Call>) {
+pub fn with_supplied<R>(values: &[(Outside, f64)], work: impl FnOnce() -> R) -> (R, Vec<Call>) {
     SCRIPT.set(Script { values: values.to_vec(), calls: vec![] });
     let result = work();
     (result, SCRIPT.take().calls)
@@ -234,8 +231,22 @@ macro_rules! constants {
 }
 
 constants!(
-    E, FRAC_1_PI, FRAC_1_SQRT_2, FRAC_2_PI, FRAC_2_SQRT_PI, FRAC_PI_2, FRAC_PI_3, FRAC_PI_4,
-    FRAC_PI_6, FRAC_PI_8, LN_10, LN_2, LOG10_E, LOG2_E, PI, SQRT_2
+    E,
+    FRAC_1_PI,
+    FRAC_1_SQRT_2,
+    FRAC_2_PI,
+    FRAC_2_SQRT_PI,
+    FRAC_PI_2,
+    FRAC_PI_3,
+    FRAC_PI_4,
+    FRAC_PI_6,
+    FRAC_PI_8,
+    LN_10,
+    LN_2,
+    LOG10_E,
+    LOG2_E,
+    PI,
+    SQRT_2
 );
 
 impl DualStruct for Supplied {
@@ -363,9 +374,30 @@ impl Float for Supplied {
         floats floor, ceil, round, trunc, fract, abs, signum, recip, sqrt
     );
     same!(
-        powf(n), exp(), exp2(), ln(), log(base), log2(), log10(), cbrt(), sin(), cos(), tan(),
-        asin(), acos(), atan(), atan2(other), exp_m1(), ln_1p(), sinh(), cosh(), tanh(), asinh(),
-        acosh(), atanh(), mul_add(a, b)
+        powf(n),
+        exp(),
+        exp2(),
+        ln(),
+        log(base),
+        log2(),
+        log10(),
+        cbrt(),
+        sin(),
+        cos(),
+        tan(),
+        asin(),
+        acos(),
+        atan(),
+        atan2(other),
+        exp_m1(),
+        ln_1p(),
+        sinh(),
+        cosh(),
+        tanh(),
+        asinh(),
+        acosh(),
+        atanh(),
+        mul_add(a, b)
     );
     fn max(self, other: Self) -> Self {
         Supplied(Float::max(self.0, other.0))

@@ -25,7 +25,10 @@ impl Answers {
     fn text(&self, run: Run) -> String {
         let head = [
             format!("# {}", self.about),
-            format!("# The answers of num-dual 0.15.1, run by oracle/run: seed {:016x}, size {}.", run.seed, run.cases),
+            format!(
+                "# The answers of num-dual 0.15.1, run by oracle/run: seed {:016x}, size {}.",
+                run.seed, run.cases
+            ),
             "# The lines are described in oracle/README.md.".to_string(),
             format!("{:08x}", self.cases.len()),
         ];

@@ -1,6 +1,6 @@
 -- Counted loops: one turn, no turn, what every turn keeps, and what carries one loop to another. Assumes nothing.
 use Prim.Native.Nat.{ℕ, zero, suc, _+_, _-_, _≤_, _<_}
-use mathlib.Core.Path.{_≡_, refl, ap, sym, _∙_}
+use mathlib.Core.Path.{_≡_, refl, ap, sym, subst, _∙_}
 use native.Mathlib.Omega.{arith}
 use Rattle.algebra.specs.Loop.{turns, upto}
 
@@ -24,6 +24,22 @@ module _ {S : Type 0} where
   pub upto-keep : (P : S → Type 0) (f : ℕ → S → S) (lo hi : ℕ) → ((j : ℕ) (s : S) → lo ≤ j → j < hi → P s → P (f j s)) → (s : S) → P s → P (upto lo hi f s)
   unfolding upto
   upto-keep P f lo hi step s p = turns-keep P f (hi - lo) lo (λ j s′ h h′ p′. step j s′ h (omega arith) p′) s p
+
+  -- what each turn takes from one number to the next, the loop takes from its first to its last
+  turns-reach : (P : ℕ → S → Type 0) (f : ℕ → S → S) (d k : ℕ) → ((j : ℕ) (s : S) → k ≤ j → j < k + d → P j s → P (j + 1) (f j s)) → (s : S) → P k s → P (k + d) (turns f d k s)
+  unfolding turns
+  turns-reach P f zero k step s p = let e : k ≡ k + 0 = omega arith in subst (λ (j : ℕ). P j s) e p
+  turns-reach P f (suc d) k step s p =
+      let e : suc k + d ≡ k + suc d = omega arith in
+      let one : k + 1 ≡ suc k = omega arith in
+      subst (λ (j : ℕ). P j (turns f d (suc k) (f k s))) e
+      (turns-reach P f d (suc k) (λ j s′ h h′ p′. step j s′ (omega arith) (omega arith) p′) (f k s) (subst (λ (j : ℕ). P j (f k s)) one (step k s (omega arith) (omega arith) p)))
+
+  pub upto-reach : (P : ℕ → S → Type 0) (f : ℕ → S → S) (lo hi : ℕ) → lo ≤ hi → ((j : ℕ) (s : S) → lo ≤ j → j < hi → P j s → P (j + 1) (f j s)) → (s : S) → P lo s → P hi (upto lo hi f s)
+  unfolding upto
+  upto-reach P f lo hi h step s p =
+      let e : lo + (hi - lo) ≡ hi = omega arith in
+      subst (λ (j : ℕ). P j (turns f (hi - lo) lo s)) e (turns-reach P f (hi - lo) lo (λ j s′ l u p′. step j s′ l (omega arith) p′) s p)
 
   -- a loop's invariant is that what is left to run gives the whole: after a turn, and at the end
   pub upto-turn : {t : S} (lo hi : ℕ) (f : ℕ → S → S) (s s′ : S) → lo < hi → s′ ≡ f lo s → upto lo hi f s ≡ t → upto (lo + 1) hi f s′ ≡ t

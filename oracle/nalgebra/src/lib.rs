@@ -51,9 +51,7 @@ pub type OVector<T, D> = OMatrix<T, D, U1>;
 impl<T: Clone, R: Dim, C: Dim> OMatrix<T, R, C> {
     pub fn from_fn_generic(rows: R, columns: C, entry: impl Fn(usize, usize) -> T) -> Self {
         let width = columns.value();
-        let entries = (0..rows.value() * width)
-            .map(|k| entry(k / width, k % width))
-            .collect();
+        let entries = (0..rows.value() * width).map(|k| entry(k / width, k % width)).collect();
         Self { rows, columns, entries }
     }
 

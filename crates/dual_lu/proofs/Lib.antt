@@ -1,0 +1,2 @@
+-- Laws of matrices of `Dual` in lent floats.
+mod Held
