@@ -173,50 +173,6 @@ fn answer_words(function: u64, parts: usize) -> usize {
     if parts <= 8 { 2 * parts } else { 16 }
 }
 
-// Reads a case of a run after its function: its count, its records, its answer.
-fn read_run(
-    file: i32,
-    buffer: &mut [u8; 4096],
-    place: Place,
-    pool: &[u64; 256],
-    line: &mut [u64; 32],
-    floats: &mut [f64; 96],
-    parts: usize,
-) -> Read {
-    let count = read_words(file, buffer, place, line, COUNT, 1);
-    let place = count.place;
-    let place = read_records(file, buffer, place, pool, line, floats, parts);
-    read_words(file, buffer, place, line, ANSWER, parts)
-}
-
-// Reads a case of one function after its number: its records, extras, number and answer.
-fn read_single(
-    file: i32,
-    buffer: &mut [u8; 4096],
-    place: Place,
-    pool: &[u64; 256],
-    line: &mut [u64; 32],
-    floats: &mut [f64; 96],
-    parts: usize,
-) -> Read {
-    let function = line[FUNCTION];
-    let s = tables::shape_of(function);
-    line[COUNT] = s.records;
-    let place = read_records(file, buffer, place, pool, line, floats, parts);
-    let extras = read_words(file, buffer, place, line, EXTRAS, s.extras);
-    let place = extras.place;
-    let number = read_words(file, buffer, place, line, NUMBER, 1);
-    let place = number.place;
-    read_words(
-        file,
-        buffer,
-        place,
-        line,
-        ANSWER,
-        answer_words(function, parts),
-    )
-}
-
 // Reads a case of a record with so many parts. At the end of the file nothing more is read, so its last words say whether it is whole.
 pub fn read_case(
     file: i32,
@@ -229,10 +185,24 @@ pub fn read_case(
 ) -> Read {
     let head = read_words(file, buffer, place, line, FUNCTION, 1);
     let place = head.place;
-    if tables::is_run(line[FUNCTION]) {
-        return read_run(file, buffer, place, pool, line, floats, parts);
-    }
-    read_single(file, buffer, place, pool, line, floats, parts)
+    let function = line[FUNCTION];
+    let s = tables::shape_of(function);
+    line[COUNT] = s.records;
+    let count = read_words(file, buffer, place, line, COUNT, s.counts);
+    let place = count.place;
+    let place = read_records(file, buffer, place, pool, line, floats, parts);
+    let extras = read_words(file, buffer, place, line, EXTRAS, s.extras);
+    let place = extras.place;
+    let number = read_words(file, buffer, place, line, NUMBER, s.numbers);
+    let place = number.place;
+    read_words(
+        file,
+        buffer,
+        place,
+        line,
+        ANSWER,
+        answer_words(function, parts),
+    )
 }
 
 // A case's float number at + part, 0 where there is none.

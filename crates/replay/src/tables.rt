@@ -1,10 +1,12 @@
 // The table of functions in oracle/README.md: what a case of each holds, and its request.
 use derivatives::Function;
 
-// How many records and extras a function takes, and how many records it answers: none is a whole number.
+// How many fields of each sort a case has, by oracle/README.md, and how many records its answer has: none is a whole number.
 pub(crate) struct Shape {
+    pub counts: usize,
     pub records: u64,
     pub extras: usize,
+    pub numbers: usize,
     pub answers: usize,
 }
 
@@ -14,17 +16,26 @@ pub enum Request {
     Not,
 }
 
-// The functions of runs-KIND.txt.
-pub(crate) fn is_run(function: u64) -> bool {
-    function == 0x39 || function == 0x3a
-}
-
 impl Shape {
+    // A case of records-KIND.txt.
     fn new(records: u64, extras: usize, answers: usize) -> Self {
         Self {
+            counts: 0,
             records,
             extras,
+            numbers: 1,
             answers,
+        }
+    }
+
+    // A case of runs-KIND.txt: it says how many records it has.
+    fn run() -> Self {
+        Self {
+            counts: 1,
+            records: 0,
+            extras: 0,
+            numbers: 0,
+            answers: 1,
         }
     }
 }
@@ -45,6 +56,7 @@ pub(crate) fn shape_of(function: u64) -> Shape {
         0x28 => Shape::new(1, 2, 2),
         0x2d | 0x38 => Shape::new(2, 2, 1),
         0x37 => Shape::new(3, 0, 1),
+        0x39..=0x3a => Shape::run(),
         _ => Shape::new(1, 0, 1),
     }
 }
@@ -61,8 +73,8 @@ fn exponent(w: u64) -> i32 {
     0
 }
 
-// The request of a function number, with its extras.
-pub fn request_of(function: u64, first: u64, second: u64) -> Request {
+// The powers, roots, exponentials and logarithms.
+fn power(function: u64, first: u64, second: u64) -> Request {
     let a = real::float_of_word(first);
     let b = real::float_of_word(second);
     match function {
@@ -82,6 +94,15 @@ pub fn request_of(function: u64, first: u64, second: u64) -> Request {
         0x23 => Request::Is(Function::Log2 { log2: a }),
         0x24 => Request::Is(Function::Log10 { log10: a }),
         0x25 => Request::Is(Function::Ln1p { ln_1p: a }),
+        _ => Request::Not,
+    }
+}
+
+// The functions of an angle, of an area, and their inverses.
+fn angle(function: u64, first: u64, second: u64) -> Request {
+    let a = real::float_of_word(first);
+    let b = real::float_of_word(second);
+    match function {
         0x26 => Request::Is(Function::Sin { sin: a, cos: b }),
         0x27 => Request::Is(Function::Cos { sin: a, cos: b }),
         0x29 => Request::Is(Function::Tan { sin: a, cos: b }),
@@ -98,5 +119,14 @@ pub fn request_of(function: u64, first: u64, second: u64) -> Request {
         0x35 => Request::Is(Function::SphJ1 { sin: a, cos: b }),
         0x36 => Request::Is(Function::SphJ2 { sin: a, cos: b }),
         _ => Request::Not,
+    }
+}
+
+// The request of a function number, with its extras.
+pub fn request_of(function: u64, first: u64, second: u64) -> Request {
+    if function < 0x26 {
+        power(function, first, second)
+    } else {
+        angle(function, first, second)
     }
 }
