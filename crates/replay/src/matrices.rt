@@ -9,23 +9,30 @@ pub struct Compared {
     pub same: bool,
 }
 
-// A size of at most 32, and where the reader stands: none where the file says a larger one.
-pub enum Size {
-    Is(usize, Place),
-    Large,
+// A size of 0 to 32, and where the reader stands; known where the file has one.
+pub struct Size {
+    pub n: usize,
+    pub known: bool,
+    pub place: Place,
 }
 
 // The size that a case begins with.
-pub fn read_size(file: i32, buffer: &mut [u8; 4096], place: Place) -> Size {
+pub fn read_size(file: i32, buffer: &mut [u8; 4096], place: Place) -> Size
+    ensures { λ r. ⌜ r .n ≤ 32 ⌝ }
+{
     let w = super::next_word(file, buffer, place);
     let place = w.place;
-    if w.digits == 0 {
-        return Size::Large;
+    if w.digits != 0 && w.word <= 32 {
+        return Size {
+            n: w.word as usize,
+            known: true,
+            place,
+        };
     }
-    if w.word <= 32 {
-        Size::Is(w.word as usize, place)
-    } else {
-        Size::Large
+    Size {
+        n: 0,
+        known: false,
+        place,
     }
 }
 
@@ -119,4 +126,20 @@ pub fn zero_order(order: &[usize]) -> bool {
         i += 1;
     }
     zero
+}
+
+// Whether two runs of floats are the same words.
+pub fn same_words(left: &[f64], right: &[f64]) -> bool {
+    if left.len() != right.len() {
+        return false;
+    }
+    let mut same = true;
+    let mut i = 0usize;
+    while i < left.len() {
+        if real::word_of_float(left[i]) != real::word_of_float(right[i]) {
+            same = false;
+        }
+        i += 1;
+    }
+    same
 }
