@@ -2,3 +2,4 @@
 pub mod Loop
 pub mod Flat
 pub mod Inside
+pub mod RealParts

@@ -1,12 +1,13 @@
 -- A map that keeps the operations of a record keeps every elementary function. At the map to the real part: real parts, and whether a request is
 -- refused, come from real parts alone. Once for the five record types. Assumes nothing.
-use mathlib.Core.Path.{_≡_, refl}
-use mathlib.Core.Bool.{Bool, true, false, cond}
+use mathlib.Core.Path.{_≡_, refl, ap, sym, _∙_}
+use mathlib.Core.Bool.{cond}
 use lib.Ieee.{Float, lt, eq}
 use Rattle.real.specs.Operations.{zero}
 use Rattle.real.specs.Sign.{signOf}
 use Rattle.algebra.specs.Algebra.{Algebra, Keeps, zeroOf, oneOf, magnitude}
 use Rattle.algebra.specs.Outcome.{mapOutcome}
+use Rattle.algebra.proofs.RealParts.{cond-map}
 use Rattle.derivatives.specs.declared.Series.{Series}
 use Rattle.derivatives.specs.declared.Function.{Function}
 use Rattle.derivatives.specs.declared.Plan.{Plan}
@@ -14,11 +15,6 @@ use Rattle.derivatives.specs.declared.Plan.the-variants.{Refused, One, S
 use Rattle.derivatives.specs.Series.{recipSeries, sqrtSeries, lnSeries, atanSeries}
 use Rattle.derivatives.specs.Plan.{planOf}
 use Rattle.derivatives.specs.Apply.{chainBy, runPlan, applyOf, recipOf, sqrtOf, expOf, lnOf, sinOf, cosOf, atanOf, atan2Of, mulAddOf, powdOf, absSubOf, signumOf}
-
--- a map of what is chosen is the choice of what is mapped
-cond-map : {R S : Type 0} (h : R → S) (b : Bool) (x y : R) → h (cond b x y) ≡ cond b (h x) (h y)
-cond-map h true x y = refl
-cond-map h false x y = refl
 
 module _ {R S : Type 0} {A : Algebra R} {B : Algebra S} {h : R → S} (k : Keeps A B h) where
   pub plan-keeps : (x : R) (p : Plan) → mapOutcome h (runPlan A x p) ≡ runPlan B (h x) p
@@ -37,6 +33,10 @@ module _ {R S : Type 0} {A : Algebra R} {B : Algebra S} {h : R → S} (k : Keeps
 
   pub apply-keeps : (x : R) (f : Function) → mapOutcome h (applyOf A x f) ≡ applyOf B (h x) f
   apply-keeps x f = rw (k .re x) (plan-keeps x (planOf (B .re (h x)) f))
+
+  -- records that the map cannot tell apart: the same number, and answers that it cannot tell apart
+  pub apply-never-steers : (x x′ : R) (f : Function) → h x ≡ h x′ → mapOutcome h (applyOf A x f) ≡ mapOutcome h (applyOf A x′ f)
+  apply-never-steers x x′ f e = apply-keeps x f ∙ ap (λ (y : S). applyOf B y f) e ∙ sym (apply-keeps x′ f)
 
   pub recip-keeps : (x : R) → h (recipOf A x) ≡ recipOf B (h x)
   recip-keeps x = simp (k .chain, k .re)

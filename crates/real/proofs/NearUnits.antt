@@ -63,14 +63,6 @@ quotient q u w U lo hi = le-antisymm (le-of-suc-le-suc (subst (λ (x : ℕ). w /
     one : (n : ℕ) → n + 1 ≡ suc n
     one n = omega arith
 
--- ---- `root`, from its k and its q on
-abbrev from : Format → ℕ → ℕ → ℕ → Float
-from f n k q = units f false (nearest q (compare (4 * n) ((2 * q + 1) * 2 ^ k * ((2 * q + 1) * 2 ^ k)))) k
-
-root-is : (f : Format) (n : ℕ) → root f n ≡ from f n (size (wholeRoot n) - prec f) (wholeRoot n / 2 ^ (size (wholeRoot n) - prec f))
-unfolding root
-root-is f n = refl
-
 -- 2 ^ (p - 1) ≤ q < 2 ^ p, for the whole root q of an R from 4 ^ (p - 1) up and below 4 ^ p
 digits-of : (R q h t : ℕ) → IsRoot R q → h * h ≤ R → R < t * t → (h ≤ q) × (q < t)
 digits-of R q h t i lo hi = (
@@ -82,42 +74,40 @@ digits-of R q h t i lo hi = (
     one n = omega arith
 
 module _ (f : Format) (R k : ℕ) (lo : 2 ^ (prec f - 1) * 2 ^ (prec f - 1) ≤ R) (hi : R < 2 ^ prec f * 2 ^ prec f) where
-  by-whole : (q : ℕ) → IsRoot R q → root f (R * (2 ^ k * 2 ^ k)) ≡ from f (R * (2 ^ k * 2 ^ k)) k q
-  by-whole q i =
+  -- what `root` finds by itself: that it drops k digits, and keeps q
+  parts : (q : ℕ) → IsRoot R q → let w = wholeRoot (R * (2 ^ k * 2 ^ k)) in (size w - prec f ≡ k) × (w / 2 ^ k ≡ q)
+  parts q i =
       let u = 2 ^ k in
-      let n = R * (u * u) in
-      let w = wholeRoot n in
+      let w = wholeRoot (R * (u * u)) in
       let d = digits-of R q (2 ^ (prec f - 1)) (2 ^ prec f) i lo hi in
-      let b = kept-quotient R u q w (pow-pos k) i (wholeRoot-is n) in
-      let z : size w - prec f ≡ k =
-      kept-size (prec f) k w (two-le-pos (prec f) (two f)) (le-trans (mul-le-mul-right u (d .0)) (b .0)) (lt-of-lt-of-le (b .1) (mul-le-mul-right u (subst (λ (x : ℕ). x ≤ 2 ^ prec f) (one q) (d .1)))) in
-      root-is f n
-      ∙ ap (λ (x : ℕ). from f n x (w / 2 ^ x)) z
-      ∙ ap (λ (x : ℕ). from f n k x) (quotient q u w (pow-pos k) (b .0) (b .1))
+      let b = kept-quotient R u q w (pow-pos k) i (wholeRoot-is (R * (u * u))) in (
+        kept-size (prec f) k w (two-le-pos (prec f) (two f)) (le-trans (mul-le-mul-right u (d .0)) (b .0)) (lt-of-lt-of-le (b .1) (mul-le-mul-right u (subst (λ (x : ℕ). x ≤ 2 ^ prec f) (one q) (d .1)))),
+        quotient q u w (pow-pos k) (b .0) (b .1),
+      )
     where
       one : (n : ℕ) → suc n ≡ n + 1
       one n = omega arith
 
-  four-out : (q : ℕ) → 4 * (R * (2 ^ k * 2 ^ k)) ≡ 4 * R * (2 ^ k * 2 ^ k)
-  four-out q = sym (mul-assoc 4 R (2 ^ k * 2 ^ k))
+  four-out : 4 * (R * (2 ^ k * 2 ^ k)) ≡ 4 * R * (2 ^ k * 2 ^ k)
+  four-out = sym (mul-assoc 4 R (2 ^ k * 2 ^ k))
 
-  stays : (q : ℕ) → R ≤ q * q + q → from f (R * (2 ^ k * 2 ^ k)) k q ≡ units f false q k
-  stays q h =
-      ap (λ (x : ℕ). units f false x k)
-      (nearest-lt q (4 * (R * (2 ^ k * 2 ^ k))) ((2 * q + 1) * 2 ^ k * ((2 * q + 1) * 2 ^ k))
-      (lt-of-le-of-lt (le-of-eq (four-out q)) (lt-of-lt-of-le (mul-lt-mul-of-pos-right less (mul-pos (pow-pos k) (pow-pos k))) (le-of-eq (sym (scaled (2 * q + 1) (2 ^ k)))))))
-    where
-      less : 4 * R < (2 * q + 1) * (2 * q + 1)
-      less = omega (arith, square-middle q)
+  stays : (q : ℕ) → IsRoot R q → R ≤ q * q + q → root f (R * (2 ^ k * 2 ^ k)) ≡ units f false q k
+  unfolding root
+  stays q i h =
+      let p = parts q i in
+      rw (p .0, p .1)
+      (ap (λ (x : ℕ). units f false x k)
+      (nearest-lt q _ _
+      (lt-of-le-of-lt (le-of-eq four-out) (lt-of-lt-of-le (mul-lt-mul-of-pos-right (omega (arith, square-middle q)) (mul-pos (pow-pos k) (pow-pos k))) (le-of-eq (sym (scaled _ (2 ^ k))))))))
 
-  moves : (q : ℕ) → q * q + q < R → from f (R * (2 ^ k * 2 ^ k)) k q ≡ units f false (suc q) k
-  moves q h =
-      ap (λ (x : ℕ). units f false x k)
-      (nearest-gt q (4 * (R * (2 ^ k * 2 ^ k))) ((2 * q + 1) * 2 ^ k * ((2 * q + 1) * 2 ^ k))
-      (lt-of-le-of-lt (le-of-eq (scaled (2 * q + 1) (2 ^ k))) (lt-of-lt-of-le (mul-lt-mul-of-pos-right more (mul-pos (pow-pos k) (pow-pos k))) (le-of-eq (sym (four-out q))))))
-    where
-      more : (2 * q + 1) * (2 * q + 1) < 4 * R
-      more = omega (arith, square-middle q)
+  moves : (q : ℕ) → IsRoot R q → q * q + q < R → root f (R * (2 ^ k * 2 ^ k)) ≡ units f false (suc q) k
+  unfolding root
+  moves q i h =
+      let p = parts q i in
+      rw (p .0, p .1)
+      (ap (λ (x : ℕ). units f false x k)
+      (nearest-gt q _ _
+      (lt-of-le-of-lt (le-of-eq (scaled _ (2 ^ k))) (lt-of-lt-of-le (mul-lt-mul-of-pos-right (omega (arith, square-middle q)) (mul-pos (pow-pos k) (pow-pos k))) (le-of-eq (sym four-out))))))
 
   -- r is the whole number nearest to √R: r - 1/2 < √R < r + 1/2
   pub root-near : (r : ℕ) → r * r < R + r → R ≤ r * r + r → root f (R * (2 ^ k * 2 ^ k)) ≡ units f false r k
@@ -126,7 +116,7 @@ module _ (f : Format) (R k : ℕ) (lo : 2 ^ (prec f - 1) * 2 ^ (prec f - 1) ≤ 
       low : (q : ℕ) → R < suc q * suc q → suc q * suc q < R + suc q → units f false (suc q) k ≡ units f false (suc q) k → root f (R * (2 ^ k * 2 ^ k)) ≡ units f false (suc q) k
       low q s t e =
           let up : suc q * suc q ≡ q * q + 2 * q + 1 = ap (λ (x : ℕ). x * x) (one q) ∙ square-suc q in
-          by-whole q (omega arith, subst (λ (x : ℕ). R < x * x) (one q) s) ∙ moves q (omega arith)
+          moves q (omega arith, subst (λ (x : ℕ). R < x * x) (one q) s) (omega arith)
         where
           one : (n : ℕ) → suc n ≡ n + 1
           one n = omega arith
@@ -139,5 +129,5 @@ module _ (f : Format) (R k : ℕ) (lo : 2 ^ (prec f - 1) * 2 ^ (prec f - 1) ≤ 
       down (suc q) s t = low q s t refl
 
       go : Dec (r * r ≤ R) → root f (R * (2 ^ k * 2 ^ k)) ≡ units f false r k
-      go (yes h) = by-whole r (h, omega (arith, square-suc r)) ∙ stays r b
+      go (yes h) = stays r (h, omega (arith, square-suc r)) b
       go (no g) = down r (lt-of-not-le g) a

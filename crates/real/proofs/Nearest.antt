@@ -33,14 +33,14 @@ apart a b n up down h = lt-irrefl (4 * n) (lt-of-lt-of-le (up h) (le-trans (le-o
     turn : (a b : ℕ) → a + b ≡ b + a
     turn a b = omega arith
 
-pub unique : (f : Format) (n : ℕ) (r s : Float) → IsNearest f n r → IsNearest f n s → r ≡ s
-unique f n nan s h k = absurd h
-unique f n (inf t) s h k = absurd h
-unique f n (fin true m e) s h k = absurd h
-unique f n (fin false m e) nan h k = absurd k
-unique f n (fin false m e) (inf t) h k = absurd k
-unique f n (fin false m e) (fin true j d) h k = absurd k
-unique f n (fin false m e) (fin false j d) h k =
+pub nearest-unique : (f : Format) (n : ℕ) (r s : Float) → IsNearest f n r → IsNearest f n s → r ≡ s
+nearest-unique f n nan s h k = absurd h
+nearest-unique f n (inf t) s h k = absurd h
+nearest-unique f n (fin true m e) s h k = absurd h
+nearest-unique f n (fin false m e) nan h k = absurd k
+nearest-unique f n (fin false m e) (inf t) h k = absurd k
+nearest-unique f n (fin false m e) (fin true j d) h k = absurd k
+nearest-unique f n (fin false m e) (fin false j d) h k =
     let a = count f m e in
     let b = count f j d in
     same-count f m e j d (h .0) (k .0)

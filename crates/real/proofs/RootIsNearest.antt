@@ -107,9 +107,9 @@ unfolding lt ofBits
 above-zero m e =
     is-true _ (lt→ltb (0 * 1 * down e) (suc m * up e * 1) (subst (λ (x : ℕ). x < suc m * up e * 1) (sym (zero-mul (down e))) (mul-pos (mul-pos (zero-lt-suc m) (up-pos e)) (zero-lt-suc 0))))
 
--- The answer for a finite float above zero is nearest to its root. With `unique` no other float is.
-pub right : (m : ℕ) (e : ℤ) → T (fits binary64 (fin false (suc m) e)) → IsNearest binary64 (radicand binary64 (suc m) e) (rootOf binary64 (fin false (suc m) e))
-right m e h =
+-- The answer for a finite float above zero is nearest to its root. With `nearest-unique` no other float is.
+pub root-is-nearest : (m : ℕ) (e : ℤ) → T (fits binary64 (fin false (suc m) e)) → IsNearest binary64 (radicand binary64 (suc m) e) (rootOf binary64 (fin false (suc m) e))
+root-is-nearest m e h =
     let x = fin false (suc m) e in
     by-pattern (toBits binary64 x) (above-bits x (is-true (fits binary64 x) h) (above-zero m e)) (finite-bits (suc m) e h) (suc m) e (ofBits-toBits binary64 x h)
 
@@ -127,4 +127,4 @@ rootOf-fits (inf false) h = unfold rootOf fits in tt
 rootOf-fits (fin true zero e) h = unfold rootOf in h
 rootOf-fits (fin true (suc m) e) h = unfold rootOf fits in tt
 rootOf-fits (fin false zero e) h = subst (λ (v : Float). T (fits binary64 v)) (zero-root (fin false zero e) (is-true (fits binary64 (fin false zero e)) h) (is-true (eq (fin false zero e) (ofBits binary64 0)) (level-zero false e))) h
-rootOf-fits (fin false (suc m) e) h = nearest-fits binary64 (radicand binary64 (suc m) e) (rootOf binary64 (fin false (suc m) e)) (right m e h)
+rootOf-fits (fin false (suc m) e) h = nearest-fits binary64 (radicand binary64 (suc m) e) (rootOf binary64 (fin false (suc m) e)) (root-is-nearest m e h)

@@ -13,18 +13,21 @@ const HIDDEN: u64 = 0x10_0000_0000_0000;
 // The pattern of +infinity: the patterns of the positive finite floats lie between 0 and it.
 pub(crate) const INFINITY: u64 = 0x7ff0_0000_0000_0000;
 
+// Where Newton's iteration starts: the root of 2^53, midway between 2^52 and 2^54.
+const MIDDLE: u64 = 0x5a8_279a;
+
 // A whole root, and what its square leaves.
 pub(crate) struct Whole {
     pub q: u64,
     pub rest: u64,
 }
 
-// The whole root of a, by Newton's iteration: from a guess above the root each next one is smaller.
+// The whole root of a, by Newton's iteration: a step from any s ends at the root or above it, and from above it goes down.
 pub(crate) fn newton(a: u64) -> u64
     requires { ⌜ a < 2 ^ 54 ⌝ }
     ensures { λ s. ⌜ (s * s ≤ a) × (a < (s + 1) * (s + 1)) ⌝ }
 {
-    let mut s = 0x800_0000u64;
+    let mut s = (MIDDLE + a / MIDDLE) / 2;
     while a < s * s {
         s = (s + a / s) / 2;
     }

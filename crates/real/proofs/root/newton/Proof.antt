@@ -1,4 +1,4 @@
--- `real::newton` meets its contract. The loop's invariant: a is below the square of s + 1, and s is at most 2 ^ 27. The measure is s. Assumes nothing.
+-- `real::root::newton` meets its contract. The loop's invariant: a is below the square of s + 1, and s is at most 2 ^ 28. The measure is s. Assumes nothing.
 use mathlib.Core.Path.{_≡_}
 use Prim.Native.Nat.{ℕ, _+_, _*_, _^_, _≤_, _<_}
 use native.Mathlib.Nat.{le-trans, le-of-lt, mul-le-mul, div-le-self}
@@ -8,13 +8,17 @@ use Rattle.real.proofs.root.newton.Statement.{statement}
 use Rattle.real.proofs.root.newton.Tie as tie
 
 abbrev Inv-loop : tie.InvT-loop
-Inv-loop a s₀ s = (a < (s + 1) * (s + 1)) × (s ≤ 2 ^ 27)
+Inv-loop a s₀ s = (a < (s + 1) * (s + 1)) × (s ≤ 2 ^ 28)
 
 abbrev μ-loop : tie.MeasureT-loop
 μ-loop a s₀ s = s
 
+add-s : tie.Need-add-s Inv-loop μ-loop
+add-s c = omega arith
+
+-- the first s is a step from MIDDLE
 loop-holds : tie.Need-loop-holds Inv-loop μ-loop
-loop-holds c = (omega arith, omega arith)
+loop-holds c = (newton-above (c .args .a) 94906266 (omega arith), omega arith)
 
 mul-loop : tie.Need-mul-loop Inv-loop μ-loop
 mul-loop c = omega (arith, mul-le-mul (c .loop .inv .1) (c .loop .inv .1))
@@ -22,8 +26,8 @@ mul-loop c = omega (arith, mul-le-mul (c .loop .inv .1) (c .loop .inv .1))
 div-s : tie.Need-div-s Inv-loop μ-loop
 div-s c = square-pos (c .before .before .args .a) (c .before .loop .s) (c .loop-test .taken)
 
-add-s : tie.Need-add-s Inv-loop μ-loop
-add-s c = omega (arith, div-le-self (c .before .before .args .a) (c .before .loop .s))
+add-s-2 : tie.Need-add-s-2 Inv-loop μ-loop
+add-s-2 c = omega (arith, div-le-self (c .before .before .args .a) (c .before .loop .s))
 
 loop-less : tie.Need-loop-less Inv-loop μ-loop
 loop-less c = newton-below (c .before .before .args .a) (c .before .loop .s) (c .loop-test .taken)
@@ -41,4 +45,4 @@ returns c = (c .loop-test .left, c .before .loop .inv .0)
 pub newton-spec : {M : Type 1} → statement M
 newton-spec =
     tie.close
-    (tie.spec Inv-loop μ-loop loop-holds mul-loop div-s add-s loop-less loop-again returns)
+    (tie.spec Inv-loop μ-loop add-s loop-holds mul-loop div-s add-s-2 loop-less loop-again returns)

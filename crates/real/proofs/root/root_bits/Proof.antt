@@ -2,6 +2,11 @@ use borrow.Author.Needs.{needs}
 use Rattle.real.proofs.Patterns.{root-pattern}
 use Rattle.real.proofs.root.root_bits.Statement.{statement}
 use Rattle.real.proofs.root.root_bits.Tie as tie
+use Rattle.real.proofs.root.root_bits.Reads as reads
+use Rattle.real.proofs.root.root_bits.Lts as lts
+use Rattle.real.proofs.root.even.Reads as even-reads
+use Rattle.real.proofs.root.rounded_root.Reads as rounded-root-reads
+use Rattle.real.proofs.root.scale.Reads as scale-reads
 
 scale-requires : tie.Need-scale-requires
 scale-requires c κs = search needs

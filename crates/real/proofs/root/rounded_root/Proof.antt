@@ -1,9 +1,12 @@
 use borrow.Author.Needs.{needs}
-use Prim.Native.Nat.{ℕ, _*_, _^_}
+use Prim.Native.Nat.{ℕ, _*_, _^_, _<_}
 use native.Mathlib.Omega.{arith}
 use Rattle.real.proofs.Rounded.{moves, stays, no-carry}
 use Rattle.real.proofs.root.rounded_root.Statement.{statement}
 use Rattle.real.proofs.root.rounded_root.Tie as tie
+use Rattle.real.proofs.root.rounded_root.Reads as reads
+use Rattle.real.proofs.root.rounded_root.Lts as lts
+use Rattle.real.proofs.root.whole_root.Reads as whole-root-reads
 
 whole-root-requires : tie.Need-whole-root-requires
 whole-root-requires c κs = search needs
@@ -18,8 +21,10 @@ returns c =
     let q = at .whole-root .result .q in
     let rest = at .whole-root .result .rest in
     let w = at .whole-root .ensures in
-    let m = moves (a * 2 ^ 52) q rest (w .0) (w .1) (c .before .if1 .taken) in
-    (m .0, m .1, no-carry a q rest (w .0) (c .before .if1 .taken) (w .2) (at .before .pre .1))
+    let up : q < rest = omega arith in
+    let m = moves (a * 2 ^ 52) q rest (w .0) (w .1) up in
+    let short = no-carry a q rest (w .0) up (w .2) (at .before .pre .1) in
+    (omega arith, omega arith, omega arith)
 
 returns-2 : tie.Need-returns-2
 returns-2 c =
@@ -28,7 +33,7 @@ returns-2 c =
     let q = at .whole-root .result .q in
     let rest = at .whole-root .result .rest in
     let w = at .whole-root .ensures in
-    let m = stays (a * 2 ^ 52) q rest (w .0) (omega arith) (c .if1 .left) in
+    let m = stays (a * 2 ^ 52) q rest (w .0) (omega arith) (omega arith) in
     (m .0, m .1, w .2)
 
 pub rounded-root-spec : {M : Type 1} → statement M

@@ -13,7 +13,7 @@ moved : (c : lts.Then1 reads.Pre reads.Post) → (11 ≤ leadingZeros 64 (c .bef
 moved c = shift (c .before .args .b % 4503599627370496) (omega arith) (omega arith)
 
 sub-shift : tie.Need-sub-shift
-sub-shift c = moved c .0
+sub-shift c = omega (arith, moved c .0)
 
 cast-t8 : tie.Need-cast-t8
 cast-t8 c = omega (arith, moved c .1)
@@ -22,7 +22,7 @@ shl-t9 : tie.Need-shl-t9
 shl-t9 c = omega (arith, moved c .1)
 
 sub-t7 : tie.Need-sub-t7
-sub-t7 c = moved c .1
+sub-t7 c = omega (arith, moved c .1)
 
 cast-t10 : tie.Need-cast-t10
 cast-t10 c = search needs

@@ -1,0 +1,233 @@
+// The operators of macros.rs, by name.
+use crate::Dual3;
+use crate::Dual3Answer;
+ghost use mathlib.Core.Path.{_≡_};
+ghost use mathlib.Core.Bool.{not};
+ghost use Prim.Native.Nat.{_+_, _*_, _<_};
+ghost use lib.ListN.{length};
+ghost use lib.Ieee.{lt, le, eq};
+ghost use Rattle.real.specs.Operations.{zero, one};
+ghost use Rattle.real.specs.Sign.{signOf};
+ghost use Rattle.algebra.specs.Algebra.{zeroOf, oneOf, addFloat, subFloat, magnitude};
+ghost use Rattle.algebra.specs.Flat.{recordAt, sumOf, productOf};
+ghost use Rattle.derivatives.specs.Apply.{absSubOf, signumOf};
+ghost use Rattle.dual3.specs.Rules.{dual3Add, dual3Sub, dual3Neg, dual3MulFloat, dual3DivFloat, dual3Algebra, dual3Layout, outcome};
+
+impl Dual3 {
+    pub fn zero() -> Self
+        ensures { λ r. ⌜ r ≡ zeroOf dual3Algebra ⌝ }
+    {
+        Self::ZERO
+    }
+
+    pub fn is_zero(self) -> bool
+        ensures { λ r. ⌜ r ≡ eq (self .re) zero ⌝ }
+    {
+        self.re == 0.0
+    }
+
+    pub fn one() -> Self
+        ensures { λ r. ⌜ r ≡ oneOf dual3Algebra ⌝ }
+    {
+        Self::ONE
+    }
+
+    pub fn is_one(self) -> bool
+        ensures { λ r. ⌜ r ≡ eq (self .re) one ⌝ }
+    {
+        self.re == 1.0
+    }
+
+    pub fn add(self, other: Dual3) -> Self
+        ensures { λ r. ⌜ r ≡ dual3Add self other ⌝ }
+    {
+        Self {
+            re: self.re + other.re,
+            v1: self.v1 + other.v1,
+            v2: self.v2 + other.v2,
+            v3: self.v3 + other.v3,
+        }
+    }
+
+    pub fn sub(self, other: Dual3) -> Self
+        ensures { λ r. ⌜ r ≡ dual3Sub self other ⌝ }
+    {
+        Self {
+            re: self.re - other.re,
+            v1: self.v1 - other.v1,
+            v2: self.v2 - other.v2,
+            v3: self.v3 - other.v3,
+        }
+    }
+
+    pub fn neg(self) -> Self
+        ensures { λ r. ⌜ r ≡ dual3Neg self ⌝ }
+    {
+        Self {
+            re: -self.re,
+            v1: -self.v1,
+            v2: -self.v2,
+            v3: -self.v3,
+        }
+    }
+
+    pub fn mul_float(self, other: f64) -> Self
+        ensures { λ r. ⌜ r ≡ dual3MulFloat self other ⌝ }
+    {
+        Self {
+            re: self.re * other,
+            v1: self.v1 * other,
+            v2: self.v2 * other,
+            v3: self.v3 * other,
+        }
+    }
+
+    pub fn div_float(self, other: f64) -> Self
+        ensures { λ r. ⌜ r ≡ dual3DivFloat self other ⌝ }
+    {
+        Self {
+            re: self.re / other,
+            v1: self.v1 / other,
+            v2: self.v2 / other,
+            v3: self.v3 / other,
+        }
+    }
+
+    pub fn add_float(mut self, other: f64) -> Self
+        ensures { λ r. ⌜ r ≡ addFloat dual3Algebra self other ⌝ }
+    {
+        self.re = self.re + other;
+        self
+    }
+
+    pub fn sub_float(mut self, other: f64) -> Self
+        ensures { λ r. ⌜ r ≡ subFloat dual3Algebra self other ⌝ }
+    {
+        self.re = self.re - other;
+        self
+    }
+
+    // x where the sign bit of re is clear, else -x.
+    pub fn abs(self) -> Self
+        ensures { λ r. ⌜ r ≡ magnitude dual3Algebra self ⌝ }
+    {
+        if real::is_negative(self.re) {
+            self.neg()
+        } else {
+            self
+        }
+    }
+
+    pub fn abs_sub(self, other: Dual3) -> Self
+        ensures { λ r. ⌜ r ≡ absSubOf dual3Algebra self other ⌝ }
+    {
+        if self.re > other.re {
+            self.sub(other)
+        } else {
+            Self::ZERO
+        }
+    }
+
+    pub fn signum(self) -> Self
+        ensures { λ r. ⌜ r ≡ signumOf dual3Algebra self ⌝ }
+    {
+        if real::is_negative(self.re) {
+            if self.re == 0.0 {
+                return Self::ZERO;
+            }
+            return Self::ONE.neg();
+        }
+        Self::ONE
+    }
+
+    pub fn is_positive(self) -> bool
+        ensures { λ r. ⌜ r ≡ not (signOf (self .re)) ⌝ }
+    {
+        !real::is_negative(self.re)
+    }
+
+    // The sign bit of re: -0 is negative.
+    pub fn is_negative(self) -> bool
+        ensures { λ r. ⌜ r ≡ signOf (self .re) ⌝ }
+    {
+        real::is_negative(self.re)
+    }
+
+    // Comparisons are only made based on the real part.
+    pub fn eq(self, other: Dual3) -> bool
+        ensures { λ r. ⌜ r ≡ eq (self .re) (other .re) ⌝ }
+    {
+        self.re == other.re
+    }
+
+    pub fn lt(self, other: Dual3) -> bool
+        ensures { λ r. ⌜ r ≡ lt (self .re) (other .re) ⌝ }
+    {
+        self.re < other.re
+    }
+
+    pub fn le(self, other: Dual3) -> bool
+        ensures { λ r. ⌜ r ≡ le (self .re) (other .re) ⌝ }
+    {
+        self.re <= other.re
+    }
+
+    pub fn gt(self, other: Dual3) -> bool
+        ensures { λ r. ⌜ r ≡ lt (other .re) (self .re) ⌝ }
+    {
+        self.re > other.re
+    }
+
+    pub fn ge(self, other: Dual3) -> bool
+        ensures { λ r. ⌜ r ≡ le (other .re) (self .re) ⌝ }
+    {
+        self.re >= other.re
+    }
+}
+
+// The record number p of a run of flat floats.
+fn record_at(floats: &[f64], p: usize) -> Dual3
+    requires { ⌜ p * 4 + 3 < length (now floats) ⌝ }
+    ensures { λ r. ⌜ r ≡ recordAt dual3Layout (now (floats .entry)) p ⌝ }
+{
+    Dual3 {
+        re: floats[p * 4],
+        v1: floats[p * 4 + 1],
+        v2: floats[p * 4 + 2],
+        v3: floats[p * 4 + 3],
+    }
+}
+
+// From zero, left to right. A length that is not whole records is refused.
+pub fn sum(floats: &[f64]) -> Dual3Answer
+    ensures { λ r. ⌜ outcome r ≡ sumOf dual3Layout dual3Algebra (now (floats .entry)) ⌝ }
+{
+    if floats.len() % 4 != 0 {
+        return Dual3Answer::Refused(algebra::WRONG_LENGTH);
+    }
+    let count = floats.len() / 4;
+    let mut acc = Dual3::ZERO;
+    let mut p = 0;
+    while p < count {
+        acc = acc.add(record_at(floats, p));
+        p += 1;
+    }
+    Dual3Answer::Value(acc)
+}
+
+// From one, left to right. A length that is not whole records is refused.
+pub fn product(floats: &[f64]) -> Dual3Answer
+    ensures { λ r. ⌜ outcome r ≡ productOf dual3Layout dual3Algebra (now (floats .entry)) ⌝ }
+{
+    if floats.len() % 4 != 0 {
+        return Dual3Answer::Refused(algebra::WRONG_LENGTH);
+    }
+    let count = floats.len() / 4;
+    let mut acc = Dual3::ONE;
+    let mut p = 0;
+    while p < count {
+        acc = acc.mul(record_at(floats, p));
+        p += 1;
+    }
+    Dual3Answer::Value(acc)
+}

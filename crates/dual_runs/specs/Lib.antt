@@ -1,0 +1,2 @@
+-- What the contracts are written with. Definitions only.
+pub mod Runs

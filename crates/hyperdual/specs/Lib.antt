@@ -1,0 +1,2 @@
+-- What the contracts of `HyperDual` are written with. Definitions only.
+pub mod Rules

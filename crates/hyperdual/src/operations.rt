@@ -1,0 +1,233 @@
+// The operators of macros.rs, by name.
+use crate::HyperDual;
+use crate::HyperDualAnswer;
+ghost use mathlib.Core.Path.{_≡_};
+ghost use mathlib.Core.Bool.{not};
+ghost use Prim.Native.Nat.{_+_, _*_, _<_};
+ghost use lib.ListN.{length};
+ghost use lib.Ieee.{lt, le, eq};
+ghost use Rattle.real.specs.Operations.{zero, one};
+ghost use Rattle.real.specs.Sign.{signOf};
+ghost use Rattle.algebra.specs.Algebra.{zeroOf, oneOf, addFloat, subFloat, magnitude};
+ghost use Rattle.algebra.specs.Flat.{recordAt, sumOf, productOf};
+ghost use Rattle.derivatives.specs.Apply.{absSubOf, signumOf};
+ghost use Rattle.hyperdual.specs.Rules.{hyperDualAdd, hyperDualSub, hyperDualNeg, hyperDualMulFloat, hyperDualDivFloat, hyperDualAlgebra, hyperDualLayout, outcome};
+
+impl HyperDual {
+    pub fn zero() -> Self
+        ensures { λ r. ⌜ r ≡ zeroOf hyperDualAlgebra ⌝ }
+    {
+        Self::ZERO
+    }
+
+    pub fn is_zero(self) -> bool
+        ensures { λ r. ⌜ r ≡ eq (self .re) zero ⌝ }
+    {
+        self.re == 0.0
+    }
+
+    pub fn one() -> Self
+        ensures { λ r. ⌜ r ≡ oneOf hyperDualAlgebra ⌝ }
+    {
+        Self::ONE
+    }
+
+    pub fn is_one(self) -> bool
+        ensures { λ r. ⌜ r ≡ eq (self .re) one ⌝ }
+    {
+        self.re == 1.0
+    }
+
+    pub fn add(self, other: HyperDual) -> Self
+        ensures { λ r. ⌜ r ≡ hyperDualAdd self other ⌝ }
+    {
+        Self {
+            re: self.re + other.re,
+            eps1: self.eps1 + other.eps1,
+            eps2: self.eps2 + other.eps2,
+            eps1eps2: self.eps1eps2 + other.eps1eps2,
+        }
+    }
+
+    pub fn sub(self, other: HyperDual) -> Self
+        ensures { λ r. ⌜ r ≡ hyperDualSub self other ⌝ }
+    {
+        Self {
+            re: self.re - other.re,
+            eps1: self.eps1 - other.eps1,
+            eps2: self.eps2 - other.eps2,
+            eps1eps2: self.eps1eps2 - other.eps1eps2,
+        }
+    }
+
+    pub fn neg(self) -> Self
+        ensures { λ r. ⌜ r ≡ hyperDualNeg self ⌝ }
+    {
+        Self {
+            re: -self.re,
+            eps1: -self.eps1,
+            eps2: -self.eps2,
+            eps1eps2: -self.eps1eps2,
+        }
+    }
+
+    pub fn mul_float(self, other: f64) -> Self
+        ensures { λ r. ⌜ r ≡ hyperDualMulFloat self other ⌝ }
+    {
+        Self {
+            re: self.re * other,
+            eps1: self.eps1 * other,
+            eps2: self.eps2 * other,
+            eps1eps2: self.eps1eps2 * other,
+        }
+    }
+
+    pub fn div_float(self, other: f64) -> Self
+        ensures { λ r. ⌜ r ≡ hyperDualDivFloat self other ⌝ }
+    {
+        Self {
+            re: self.re / other,
+            eps1: self.eps1 / other,
+            eps2: self.eps2 / other,
+            eps1eps2: self.eps1eps2 / other,
+        }
+    }
+
+    pub fn add_float(mut self, other: f64) -> Self
+        ensures { λ r. ⌜ r ≡ addFloat hyperDualAlgebra self other ⌝ }
+    {
+        self.re = self.re + other;
+        self
+    }
+
+    pub fn sub_float(mut self, other: f64) -> Self
+        ensures { λ r. ⌜ r ≡ subFloat hyperDualAlgebra self other ⌝ }
+    {
+        self.re = self.re - other;
+        self
+    }
+
+    // x where the sign bit of re is clear, else -x.
+    pub fn abs(self) -> Self
+        ensures { λ r. ⌜ r ≡ magnitude hyperDualAlgebra self ⌝ }
+    {
+        if real::is_negative(self.re) {
+            self.neg()
+        } else {
+            self
+        }
+    }
+
+    pub fn abs_sub(self, other: HyperDual) -> Self
+        ensures { λ r. ⌜ r ≡ absSubOf hyperDualAlgebra self other ⌝ }
+    {
+        if self.re > other.re {
+            self.sub(other)
+        } else {
+            Self::ZERO
+        }
+    }
+
+    pub fn signum(self) -> Self
+        ensures { λ r. ⌜ r ≡ signumOf hyperDualAlgebra self ⌝ }
+    {
+        if real::is_negative(self.re) {
+            if self.re == 0.0 {
+                return Self::ZERO;
+            }
+            return Self::ONE.neg();
+        }
+        Self::ONE
+    }
+
+    pub fn is_positive(self) -> bool
+        ensures { λ r. ⌜ r ≡ not (signOf (self .re)) ⌝ }
+    {
+        !real::is_negative(self.re)
+    }
+
+    // The sign bit of re: -0 is negative.
+    pub fn is_negative(self) -> bool
+        ensures { λ r. ⌜ r ≡ signOf (self .re) ⌝ }
+    {
+        real::is_negative(self.re)
+    }
+
+    // Comparisons are only made based on the real part.
+    pub fn eq(self, other: HyperDual) -> bool
+        ensures { λ r. ⌜ r ≡ eq (self .re) (other .re) ⌝ }
+    {
+        self.re == other.re
+    }
+
+    pub fn lt(self, other: HyperDual) -> bool
+        ensures { λ r. ⌜ r ≡ lt (self .re) (other .re) ⌝ }
+    {
+        self.re < other.re
+    }
+
+    pub fn le(self, other: HyperDual) -> bool
+        ensures { λ r. ⌜ r ≡ le (self .re) (other .re) ⌝ }
+    {
+        self.re <= other.re
+    }
+
+    pub fn gt(self, other: HyperDual) -> bool
+        ensures { λ r. ⌜ r ≡ lt (other .re) (self .re) ⌝ }
+    {
+        self.re > other.re
+    }
+
+    pub fn ge(self, other: HyperDual) -> bool
+        ensures { λ r. ⌜ r ≡ le (other .re) (self .re) ⌝ }
+    {
+        self.re >= other.re
+    }
+}
+
+// The record number p of a run of flat floats.
+fn record_at(floats: &[f64], p: usize) -> HyperDual
+    requires { ⌜ p * 4 + 3 < length (now floats) ⌝ }
+    ensures { λ r. ⌜ r ≡ recordAt hyperDualLayout (now (floats .entry)) p ⌝ }
+{
+    HyperDual {
+        re: floats[p * 4],
+        eps1: floats[p * 4 + 1],
+        eps2: floats[p * 4 + 2],
+        eps1eps2: floats[p * 4 + 3],
+    }
+}
+
+// From zero, left to right. A length that is not whole records is refused.
+pub fn sum(floats: &[f64]) -> HyperDualAnswer
+    ensures { λ r. ⌜ outcome r ≡ sumOf hyperDualLayout hyperDualAlgebra (now (floats .entry)) ⌝ }
+{
+    if floats.len() % 4 != 0 {
+        return HyperDualAnswer::Refused(algebra::WRONG_LENGTH);
+    }
+    let count = floats.len() / 4;
+    let mut acc = HyperDual::ZERO;
+    let mut p = 0;
+    while p < count {
+        acc = acc.add(record_at(floats, p));
+        p += 1;
+    }
+    HyperDualAnswer::Value(acc)
+}
+
+// From one, left to right. A length that is not whole records is refused.
+pub fn product(floats: &[f64]) -> HyperDualAnswer
+    ensures { λ r. ⌜ outcome r ≡ productOf hyperDualLayout hyperDualAlgebra (now (floats .entry)) ⌝ }
+{
+    if floats.len() % 4 != 0 {
+        return HyperDualAnswer::Refused(algebra::WRONG_LENGTH);
+    }
+    let count = floats.len() / 4;
+    let mut acc = HyperDual::ONE;
+    let mut p = 0;
+    while p < count {
+        acc = acc.mul(record_at(floats, p));
+        p += 1;
+    }
+    HyperDualAnswer::Value(acc)
+}

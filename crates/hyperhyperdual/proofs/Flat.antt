@@ -1,0 +1,21 @@
+-- The layout of `HyperHyperDual` in flat floats: parts and record are two views of one thing, the real part first. Assumes nothing.
+use mathlib.Core.Path.{refl, ap, _∙_}
+use native.Mathlib.Omega.{arith}
+use lib.Dec.{lit<}
+use Rattle.real.specs.Operations as float
+use Rattle.algebra.specs.Flat.{tabulate, Lawful, Agrees}
+use Rattle.algebra.proofs.Flat.{tabulate-at}
+use Rattle.hyperhyperdual.specs.Rules.{hyperHyperDual, hyperHyperDualAlgebra, hyperHyperDualLayout}
+
+pub hyper-hyper-dual-lawful : Lawful hyperHyperDualLayout
+unfolding tabulate
+hyper-hyper-dual-lawful = record {
+  positive = lit< tt;
+  size = λ x. refl;
+  reads = λ f g h. λ i. hyperHyperDual (h 0 (lit< tt) i) (h 1 (lit< tt) i) (h 2 (lit< tt) i) (h 3 (lit< tt) i) (h 4 (lit< tt) i) (h 5 (lit< tt) i) (h 6 (lit< tt) i) (h 7 (lit< tt) i);
+  whole = λ x. refl;
+  again = λ f i h. tabulate-at f 8 0 i float.zero h ∙ ap f (omega arith);
+}
+
+pub hyper-hyper-dual-agrees : Agrees hyperHyperDualAlgebra hyperHyperDualLayout
+hyper-hyper-dual-agrees = record { first = λ f. refl; blank = refl }

@@ -1,0 +1,15 @@
+use borrow.Author.Needs.{needs}
+use Rattle.hyperhyperdual.proofs.HyperHyperDual.apply.Statement.{statement}
+use Rattle.hyperhyperdual.proofs.HyperHyperDual.apply.Tie as tie
+
+choose-requires : tie.Need-choose-requires
+choose-requires c κs = search needs
+
+run-requires : tie.Need-run-requires
+run-requires c κs = search needs
+
+returns : tie.Need-returns
+returns c = cc
+
+pub apply-spec : {M : Type 1} → statement M
+apply-spec = tie.close (tie.spec choose-requires run-requires returns)

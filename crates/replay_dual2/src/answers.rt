@@ -1,0 +1,128 @@
+// What `Dual2` answers to a case, by its function's number (oracle/README.md).
+use dual2::Dual2;
+use dual2::Dual2Answer;
+use replay::records;
+use replay::records::Answer;
+use replay::tables;
+use replay::tables::Request;
+
+pub(crate) const PARTS: usize = 3;
+
+// The record whose parts stand in the floats from number `at` on.
+fn record_at(floats: &[f64; 96], at: usize) -> Dual2 {
+    Dual2::new(
+        records::part(floats, at, 0),
+        records::part(floats, at, 1),
+        records::part(floats, at, 2),
+    )
+}
+
+fn parts(x: Dual2) -> [f64; 8] {
+    [x.re, x.v1, x.v2, 0.0, 0.0, 0.0, 0.0, 0.0]
+}
+
+fn of_record(x: Dual2) -> Answer {
+    records::of_record(parts(x))
+}
+
+fn of_answer(answer: Dual2Answer) -> Answer {
+    match answer {
+        Dual2Answer::Value(x) => of_record(x),
+        Dual2Answer::Refused(n) => records::of_refusal(n),
+    }
+}
+
+fn constructor(function: u64, x: Dual2, a: f64) -> Answer {
+    match function {
+        0x01 => of_record(Dual2::zero()),
+        0x02 => of_record(Dual2::one()),
+        0x03 => records::of_number(Dual2::NDERIV as u64),
+        0x04 => of_record(Dual2::from_re(a)),
+        0x05 => of_record(x.derivative()),
+        _ => records::no_answer(),
+    }
+}
+
+fn operator(function: u64, x: Dual2, y: Dual2, a: f64) -> Answer {
+    match function {
+        0x09 => of_record(x.add(y)),
+        0x0a => of_record(x.sub(y)),
+        0x0b => of_record(x.mul(y)),
+        0x0c => of_record(x.div(y)),
+        0x0d => of_record(x.neg()),
+        0x0e => of_record(x.mul_float(a)),
+        0x0f => of_record(x.div_float(a)),
+        0x10 => of_record(x.add_float(a)),
+        0x11 => of_record(x.sub_float(a)),
+        0x12 => of_record(x.scale(a)),
+        _ => records::no_answer(),
+    }
+}
+
+fn comparisons(x: Dual2, y: Dual2) -> Answer {
+    records::of_number(
+        records::flag(x.eq(y), 1)
+            | records::flag(x.lt(y), 2)
+            | records::flag(x.le(y), 4)
+            | records::flag(x.gt(y), 8)
+            | records::flag(x.ge(y), 16),
+    )
+}
+
+fn signs(x: Dual2) -> Answer {
+    records::of_number(records::flag(x.is_negative(), 1) | records::flag(x.is_positive(), 2))
+}
+
+// The functions that are no request, or are one and a method too.
+fn method(function: u64, x: Dual2, y: Dual2, a: f64, b: f64) -> Answer {
+    match function {
+        0x15 => of_record(x.abs()),
+        0x16 => of_record(x.signum()),
+        0x17 => of_record(x.abs_sub(y)),
+        0x18 => of_record(x.recip()),
+        0x19 => of_record(x.inv()),
+        0x1a => of_record(x.sqrt()),
+        0x28 => sin_cos(x, a, b),
+        0x2d => of_record(x.atan2(y, a, b)),
+        0x38 => of_record(x.powd(y, a, b)),
+        _ => records::no_answer(),
+    }
+}
+
+fn sin_cos(x: Dual2, sin: f64, cos: f64) -> Answer {
+    let r = x.sin_cos(sin, cos);
+    records::of_records(parts(r.sin), parts(r.cos), PARTS)
+}
+
+fn request(function: u64, x: Dual2, first: u64, second: u64) -> Answer {
+    let request = tables::request_of(function, first, second);
+    match request {
+        Request::Is(f) => of_answer(x.apply(f)),
+        Request::Not => records::no_answer(),
+    }
+}
+
+pub(crate) fn answer(line: &[u64; 32], floats: &[f64; 96]) -> Answer {
+    let function = line[records::FUNCTION];
+    let first = line[records::FIRST];
+    let second = line[records::SECOND];
+    let a = real::float_of_word(first);
+    let b = real::float_of_word(second);
+    let x = record_at(floats, 0);
+    let y = record_at(floats, PARTS);
+    match function {
+        0x01..=0x08 => constructor(function, x, a),
+        0x09..=0x12 => operator(function, x, y, a),
+        0x13 => comparisons(x, y),
+        0x14 => signs(x),
+        0x18..=0x1a => records::both(
+            method(function, x, y, a, b),
+            request(function, x, first, second),
+        ),
+        0x15..=0x17 | 0x28 | 0x2d | 0x38 => method(function, x, y, a, b),
+        0x37 => of_record(x.mul_add(y, record_at(floats, 2 * PARTS))),
+        0x39 => of_answer(dual2::sum(records::run_of(floats, line[records::LENGTH]))),
+        0x3a => of_answer(dual2::product(records::run_of(floats, line[records::LENGTH]))),
+        _ => request(function, x, first, second),
+    }
+}

@@ -1,0 +1,130 @@
+// What `HyperDual` answers to a case, by its function's number (oracle/README.md).
+use hyperdual::HyperDual;
+use hyperdual::HyperDualAnswer;
+use replay::records;
+use replay::records::Answer;
+use replay::tables;
+use replay::tables::Request;
+
+pub(crate) const PARTS: usize = 4;
+
+// The record whose parts stand in the floats from number `at` on.
+fn record_at(floats: &[f64; 96], at: usize) -> HyperDual {
+    HyperDual::new(
+        records::part(floats, at, 0),
+        records::part(floats, at, 1),
+        records::part(floats, at, 2),
+        records::part(floats, at, 3),
+    )
+}
+
+fn parts(x: HyperDual) -> [f64; 8] {
+    [x.re, x.eps1, x.eps2, x.eps1eps2, 0.0, 0.0, 0.0, 0.0]
+}
+
+fn of_record(x: HyperDual) -> Answer {
+    records::of_record(parts(x))
+}
+
+fn of_answer(answer: HyperDualAnswer) -> Answer {
+    match answer {
+        HyperDualAnswer::Value(x) => of_record(x),
+        HyperDualAnswer::Refused(n) => records::of_refusal(n),
+    }
+}
+
+fn constructor(function: u64, x: HyperDual, a: f64) -> Answer {
+    match function {
+        0x01 => of_record(HyperDual::zero()),
+        0x02 => of_record(HyperDual::one()),
+        0x03 => records::of_number(HyperDual::NDERIV as u64),
+        0x04 => of_record(HyperDual::from_re(a)),
+        0x06 => of_record(x.derivative1()),
+        0x07 => of_record(x.derivative2()),
+        _ => records::no_answer(),
+    }
+}
+
+fn operator(function: u64, x: HyperDual, y: HyperDual, a: f64) -> Answer {
+    match function {
+        0x09 => of_record(x.add(y)),
+        0x0a => of_record(x.sub(y)),
+        0x0b => of_record(x.mul(y)),
+        0x0c => of_record(x.div(y)),
+        0x0d => of_record(x.neg()),
+        0x0e => of_record(x.mul_float(a)),
+        0x0f => of_record(x.div_float(a)),
+        0x10 => of_record(x.add_float(a)),
+        0x11 => of_record(x.sub_float(a)),
+        0x12 => of_record(x.scale(a)),
+        _ => records::no_answer(),
+    }
+}
+
+fn comparisons(x: HyperDual, y: HyperDual) -> Answer {
+    records::of_number(
+        records::flag(x.eq(y), 1)
+            | records::flag(x.lt(y), 2)
+            | records::flag(x.le(y), 4)
+            | records::flag(x.gt(y), 8)
+            | records::flag(x.ge(y), 16),
+    )
+}
+
+fn signs(x: HyperDual) -> Answer {
+    records::of_number(records::flag(x.is_negative(), 1) | records::flag(x.is_positive(), 2))
+}
+
+// The functions that are no request, or are one and a method too.
+fn method(function: u64, x: HyperDual, y: HyperDual, a: f64, b: f64) -> Answer {
+    match function {
+        0x15 => of_record(x.abs()),
+        0x16 => of_record(x.signum()),
+        0x17 => of_record(x.abs_sub(y)),
+        0x18 => of_record(x.recip()),
+        0x19 => of_record(x.inv()),
+        0x1a => of_record(x.sqrt()),
+        0x28 => sin_cos(x, a, b),
+        0x2d => of_record(x.atan2(y, a, b)),
+        0x38 => of_record(x.powd(y, a, b)),
+        _ => records::no_answer(),
+    }
+}
+
+fn sin_cos(x: HyperDual, sin: f64, cos: f64) -> Answer {
+    let r = x.sin_cos(sin, cos);
+    records::of_records(parts(r.sin), parts(r.cos), PARTS)
+}
+
+fn request(function: u64, x: HyperDual, first: u64, second: u64) -> Answer {
+    let request = tables::request_of(function, first, second);
+    match request {
+        Request::Is(f) => of_answer(x.apply(f)),
+        Request::Not => records::no_answer(),
+    }
+}
+
+pub(crate) fn answer(line: &[u64; 32], floats: &[f64; 96]) -> Answer {
+    let function = line[records::FUNCTION];
+    let first = line[records::FIRST];
+    let second = line[records::SECOND];
+    let a = real::float_of_word(first);
+    let b = real::float_of_word(second);
+    let x = record_at(floats, 0);
+    let y = record_at(floats, PARTS);
+    match function {
+        0x01..=0x08 => constructor(function, x, a),
+        0x09..=0x12 => operator(function, x, y, a),
+        0x13 => comparisons(x, y),
+        0x14 => signs(x),
+        0x18..=0x1a => records::both(
+            method(function, x, y, a, b),
+            request(function, x, first, second),
+        ),
+        0x15..=0x17 | 0x28 | 0x2d | 0x38 => method(function, x, y, a, b),
+        0x37 => of_record(x.mul_add(y, record_at(floats, 2 * PARTS))),
+        0x39 => of_answer(hyperdual::sum(records::run_of(floats, line[records::LENGTH]))),
+        0x3a => of_answer(hyperdual::product(records::run_of(floats, line[records::LENGTH]))),
+        _ => request(function, x, first, second),
+    }
+}

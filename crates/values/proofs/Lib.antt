@@ -1,0 +1,2 @@
+-- The one statement over document 01's table.
+mod Computed

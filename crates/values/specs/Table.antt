@@ -1,0 +1,127 @@
+-- Document 01's values P1 to P12 as one table: in each row what the definitions give, and what the document says, as numbers. A float is its word.
+-- Definitions only.
+use Prim.Native.Nat.{ℕ}
+use mathlib.Core.Bool.{Bool, true, false, _&&_}
+use mathlib.Core.List.{List, [], _∷_, _++_, map}
+use lib.Dec.{eqb}
+use lib.ListN.{replicate}
+use lib.IntN.{pos, negsuc}
+use lib.Ieee.{Float, binary64, ofBits, toBits}
+use Rattle.real.specs.Operations as float
+use Rattle.real.specs.Root.{sqrtOf}
+use Rattle.algebra.specs.Outcome.{Outcome, value, refused, numberOf}
+use Rattle.derivatives.specs.Apply as apply
+use Rattle.derivatives.specs.declared.Function.the-variants.{Powi}
+use Rattle.dual.specs.declared.Dual.{Dual}
+use Rattle.dual.specs.Rules.{dual, dualDiv, dualAlgebra, dualLayout}
+use Rattle.dual3.specs.declared.Dual3.{Dual3}
+use Rattle.dual3.specs.Rules.{dual3, dual3Algebra}
+use Rattle.matrices.specs.Entries.{LuLeft, luRefusal, luLeft, determinantLeft}
+use Rattle.jacobi.specs.Entry.{JacobiLeft, jacobiLeft}
+
+-- what is got, and what is wanted
+pub record Row : Type 0 where
+  pub got : List ℕ
+  pub wanted : List ℕ
+
+abbrev pub row : List ℕ → List ℕ → Row
+row got wanted = record { got = got; wanted = wanted }
+
+-- two lists of numbers are equal
+unfoldable pub same : List ℕ → List ℕ → Bool
+same [] [] = true
+same [] (y ∷ m) = false
+same (x ∷ l) [] = false
+same (x ∷ l) (y ∷ m) = eqb x y && same l m
+
+-- every row gives what is wanted
+unfoldable pub every : List Row → Bool
+every [] = true
+every (r ∷ t) = same (r .got) (r .wanted) && every t
+
+-- floats by their words, and words of floats
+abbrev pub floats : List ℕ → List Float
+floats = map (ofBits binary64)
+
+abbrev pub words : List Float → List ℕ
+words = map (toBits binary64)
+
+-- 5.0 and 49.0
+abbrev pub five : Float
+five = ofBits binary64 0x4014_0000_0000_0000
+
+abbrev pub fortyNine : Float
+fortyNine = ofBits binary64 0x4048_8000_0000_0000
+
+-- a record's parts, or the number that it is refused by
+abbrev pub dualWords : Outcome Dual → List ℕ
+dualWords (value x) = 0 ∷ words (x .re ∷ x .eps ∷ [])
+dualWords (refused n) = n ∷ []
+
+abbrev pub dual3Words : Outcome Dual3 → List ℕ
+dual3Words (value x) = 0 ∷ words (x .re ∷ x .v1 ∷ x .v2 ∷ x .v3 ∷ [])
+dual3Words (refused n) = n ∷ []
+
+-- the number and the count or 0
+abbrev pub counted : Outcome ℕ → List ℕ
+counted (value n) = 0 ∷ n ∷ []
+counted (refused n) = n ∷ 0 ∷ []
+
+-- what LU leaves: number, swap count, column, order, factors
+abbrev pub luWords : LuLeft → List ℕ
+luWords l = counted (l .answer) ++ (l .column ∷ l .order) ++ words (l .factors)
+
+-- LU of a matrix of n by n given by words, into buffers that hold other things
+abbrev pub luWords-of : ℕ → ℕ → List ℕ → List ℕ
+luWords-of n count a = luWords (luLeft dualAlgebra dualLayout n (floats a) (replicate count fortyNine) (replicate n 7))
+
+-- what Jacobi leaves: number, sweep count, values, vectors
+abbrev pub jacobiWords : JacobiLeft → List ℕ
+jacobiWords l = counted (l .answer) ++ words (l .values) ++ words (l .vectors)
+
+-- Jacobi of a 2 by 2 matrix given by words, limit 200
+abbrev pub jacobiWords-of : List ℕ → List ℕ
+jacobiWords-of a = jacobiWords (jacobiLeft dualAlgebra dualLayout 2 (floats a) 200 (replicate 4 fortyNine) (replicate 8 fortyNine))
+
+-- P1 to P12, then the two unmarked values of Jacobi
+unfoldable pub table : List Row
+table =
+    -- P1: the factors of the listing: one swap, order 1 0
+    row (luWords-of 2 8 (0 ∷ 0x3ff0_0000_0000_0000 ∷ 0x4000_0000_0000_0000 ∷ 0 ∷ 0x3ff0_0000_0000_0000 ∷ 0 ∷ 0 ∷ 0 ∷ []))
+    (0 ∷ 1 ∷ 0 ∷ 1 ∷ 0 ∷ 0x3ff0_0000_0000_0000 ∷ 0 ∷ 0 ∷ 0 ∷ 0 ∷ 0x3ff0_0000_0000_0000 ∷ 0x4000_0000_0000_0000 ∷ 0 ∷ [])
+    -- P2: (49, 0) / (49, 0) has real part below 1
+    ∷ row (toBits binary64 (dualDiv (dual fortyNine float.zero) (dual fortyNine float.zero) .re) ∷ []) (0x3fef_ffff_ffff_ffff ∷ [])
+    -- P3: [[49,49],[49,49]] keeps row 0; the last pivot is 2^-47
+    ∷ row (luWords-of 2 8 (0x4048_8000_0000_0000 ∷ 0 ∷ 0x4048_8000_0000_0000 ∷ 0 ∷ 0x4048_8000_0000_0000 ∷ 0 ∷ 0x4048_8000_0000_0000 ∷ 0 ∷ []))
+    (0 ∷ 0 ∷ 0 ∷ 0 ∷ 1 ∷ 0x4048_8000_0000_0000 ∷ 0 ∷ 0x4048_8000_0000_0000 ∷ 0 ∷ 0x3fef_ffff_ffff_ffff ∷ 0 ∷ 0x3d00_0000_0000_0000 ∷ 0 ∷ [])
+    -- P4: [[1,2],[1,2]] is refused 6, column 1; both buffers zero
+    ∷ row (luWords-of 2 8 (0x3ff0_0000_0000_0000 ∷ 0 ∷ 0x4000_0000_0000_0000 ∷ 0 ∷ 0x3ff0_0000_0000_0000 ∷ 0 ∷ 0x4000_0000_0000_0000 ∷ 0 ∷ []))
+    (6 ∷ 0 ∷ 1 ∷ 0 ∷ 0 ∷ 0 ∷ 0 ∷ 0 ∷ 0 ∷ 0 ∷ 0 ∷ 0 ∷ 0 ∷ [])
+    -- P5: the 1 by 1 matrix (0, 1) is refused 6, column 0
+    ∷ row (luWords-of 1 2 (0 ∷ 0x3ff0_0000_0000_0000 ∷ [])) (6 ∷ 0 ∷ 0 ∷ 0 ∷ 0 ∷ 0 ∷ [])
+    -- P6: n = 0: LU gives 0 with no swaps, determinant (1, 0); Jacobi gives 3
+    ∷ row (luWords-of 0 0 []) (0 ∷ 0 ∷ 0 ∷ [])
+    ∷ row (dualWords (determinantLeft dualAlgebra dualLayout 0 [] [] 0)) (0 ∷ 0x3ff0_0000_0000_0000 ∷ 0 ∷ [])
+    ∷ row (jacobiWords (jacobiLeft dualAlgebra dualLayout 0 [] 200 [] [])) (3 ∷ 0 ∷ [])
+    -- P7: n = 32 passes the size check, 33 gives 1
+    ∷ row (luRefusal 2 32 2048 2048 32 ∷ luRefusal 2 33 2178 2178 33 ∷ []) (0 ∷ 1 ∷ [])
+    -- P8: (5,1) powi 2 is (25,10); `Dual3` (5,1,0,0) powi 3 with 1 supplied is (125,75,30,6)
+    ∷ row (dualWords (apply.applyOf dualAlgebra (dual five float.one) (Powi (pos 2) float.one))) (0 ∷ 0x4039_0000_0000_0000 ∷ 0x4024_0000_0000_0000 ∷ [])
+    ∷ row (dual3Words (apply.applyOf dual3Algebra (dual3 five float.one float.zero float.zero) (Powi (pos 3) float.one)))
+    (0 ∷ 0x405f_4000_0000_0000 ∷ 0x4052_c000_0000_0000 ∷ 0x403e_0000_0000_0000 ∷ 0x4018_0000_0000_0000 ∷ [])
+    -- P9: exponent 1,024 accepted, 1,025 and -1,025 give 5
+    ∷ row (
+      numberOf (apply.applyOf dualAlgebra (dual five float.one) (Powi (pos 1024) float.one))
+      ∷ numberOf (apply.applyOf dualAlgebra (dual five float.one) (Powi (negsuc 1023) float.one))
+      ∷ numberOf (apply.applyOf dualAlgebra (dual five float.one) (Powi (pos 1025) float.one))
+      ∷ numberOf (apply.applyOf dualAlgebra (dual five float.one) (Powi (negsuc 1024) float.one)) ∷ []
+    )
+    (0 ∷ 0 ∷ 5 ∷ 5 ∷ [])
+    -- P10: root of 2^-1074 is 2^-537; root of -0 is -0
+    ∷ row (words (map sqrtOf (floats (1 ∷ 0x8000_0000_0000_0000 ∷ [])))) (0x1e60_0000_0000_0000 ∷ 0x8000_0000_0000_0000 ∷ [])
+    -- P11: sqrt of (0, 1) is 0 with a NaN derivative
+    ∷ row (dualWords (value (apply.sqrtOf dualAlgebra (dual float.zero float.one)))) (0 ∷ 0 ∷ 0x7ff8_0000_0000_0000 ∷ [])
+    -- P12: diagonal 3, 1: no sweep, eigenvalues 1, 3, columns exchanged
+    ∷ row (jacobiWords-of (0x4008_0000_0000_0000 ∷ 0 ∷ 0 ∷ 0 ∷ 0 ∷ 0 ∷ 0x3ff0_0000_0000_0000 ∷ 0 ∷ []))
+    (0 ∷ 0 ∷ 0x3ff0_0000_0000_0000 ∷ 0 ∷ 0x4008_0000_0000_0000 ∷ 0 ∷ 0 ∷ 0 ∷ 0x3ff0_0000_0000_0000 ∷ 0 ∷ 0x3ff0_0000_0000_0000 ∷ 0 ∷ 0 ∷ 0 ∷ [])
+    ∷ []

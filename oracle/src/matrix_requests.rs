@@ -1,0 +1,229 @@
+//! Requests for matrices over `Dual`, by seed.
+use crate::matrices::{Entries, Entry, Factors};
+use crate::original::Dual;
+use crate::random::Random;
+
+#[derive(Clone)]
+pub struct Matrix {
+    pub n: usize,
+    pub entries: Entries,
+}
+
+/// Sweep limits in turn.
+pub const LIMITS: [usize; 9] = [200, 0, 1, 2, 4, 5, 6, 50, 1000];
+
+/// The kinds of matrices, in turn. The last seven are for Jacobi.
+#[derive(Copy, Clone, Debug, PartialEq)]
+#[rustfmt::skip]
+pub enum Style {
+    Moderate, Whole, Signs, EqualRows, FortyNine, OneEdge, Edges, Wide, Bits,
+    Diagonal, Sorted, Repeated, Vanishing, Overflowing, Faint, NegativeZeros,
+}
+use Style::*;
+
+pub const GENERAL: &[Style] =
+    &[Moderate, Whole, Signs, EqualRows, FortyNine, OneEdge, Edges, Wide, Bits];
+
+#[rustfmt::skip]
+pub const SYMMETRIC: &[Style] = &[
+    Moderate, Whole, Diagonal, Signs, Faint, OneEdge, Repeated, Moderate, Edges, Vanishing,
+    Sorted, Overflowing, FortyNine, NegativeZeros, Wide, Bits, EqualRows,
+];
+
+/// Mostly small; every sixty-fourth is large, 32, 12 and 9 first, then each size in turn.
+pub fn size(random: &mut Random, i: usize) -> usize {
+    match (i % 64, i / 64) {
+        (63, turn) => [32, 12, 9].get(turn).copied().unwrap_or(turn % 33),
+        _ => random.choose(&[1, 2, 2, 2, 2, 3, 3, 3, 3, 4, 4, 5, 6]),
+    }
+}
+
+pub fn matrix(random: &mut Random, n: usize, style: Style) -> Matrix {
+    let mut matrix = Matrix { n, entries: vec![] };
+    let common = [1.0, 49.0, 0.1][random.below(3)];
+    for r in 0..n {
+        for c in 0..n {
+            let re = real(random, style, r, c, common);
+            matrix.entries.push(Dual { re, eps: slope(random) });
+        }
+    }
+    match style {
+        EqualRows if n > 1 => equal_rows(random, &mut matrix),
+        OneEdge if n > 0 => {
+            let place = random.below(n * n);
+            matrix.entries[place].re = edge(random);
+        }
+        Sorted => (0..n).for_each(|r| matrix.entries[r * n + r].re = r as f64),
+        _ => {}
+    }
+    matrix
+}
+
+fn real(random: &mut Random, style: Style, r: usize, c: usize, common: f64) -> f64 {
+    let diagonal = r == c;
+    match style {
+        Moderate | EqualRows | OneEdge => random.scaled(-4, 4),
+        Whole => random.small(3),
+        Signs => {
+            if random.chance(50) {
+                common
+            } else {
+                -common
+            }
+        }
+        FortyNine => 49.0 * (1 + random.below(2)) as f64,
+        Edges => edge(random),
+        Wide => random.scaled(-300, 300),
+        Bits => random.bits(),
+        Diagonal | Sorted if !diagonal => {
+            if random.chance(50) {
+                0.0
+            } else {
+                -0.0
+            }
+        }
+        Diagonal | Sorted => random.small(9),
+        Repeated if diagonal => 2.0,
+        Repeated => common,
+        Vanishing if diagonal => random.small(3),
+        Vanishing => random.scaled(-600, -530),
+        Overflowing if diagonal => random.scaled(0, 600),
+        Overflowing => random.scaled(500, 600),
+        Faint if diagonal => random.small(3),
+        Faint => random.scaled(-58, -48),
+        NegativeZeros if diagonal => -0.0,
+        NegativeZeros => {
+            if random.chance(30) {
+                1.0
+            } else {
+                -0.0
+            }
+        }
+    }
+}
+
+fn edge(random: &mut Random) -> f64 {
+    f64::from_bits(random.choose(&crate::pool::EDGE_WORDS))
+}
+
+fn slope(random: &mut Random) -> f64 {
+    match random.below(12) {
+        0 => edge(random),
+        1 | 2 => 0.0,
+        3..6 => random.small(3),
+        _ => random.scaled(-4, 4),
+    }
+}
+
+/// One row becomes another, in real parts.
+fn equal_rows(random: &mut Random, matrix: &mut Matrix) {
+    let n = matrix.n;
+    let from = random.below(n);
+    let to = (from + 1 + random.below(n - 1)) % n;
+    for c in 0..n {
+        matrix.entries[to * n + c].re = matrix.entries[from * n + c].re;
+    }
+}
+
+/// Singular at exactly this column: rows of an upper triangle in any order, whose diagonal has a
+/// zero there. Slopes are as anywhere.
+pub fn singular(random: &mut Random, n: usize, column: usize) -> Matrix {
+    let mut rows: Vec<Entries> =
+        (0..n).map(|r| (0..n).map(|c| triangle_entry(random, r, c, column)).collect()).collect();
+    random.shuffle(&mut rows);
+    Matrix { n, entries: rows.concat() }
+}
+
+fn triangle_entry(random: &mut Random, r: usize, c: usize, column: usize) -> Entry {
+    let zero = if random.chance(50) { 0.0 } else { -0.0 };
+    let re = match (r > c, r == c) {
+        (true, _) => zero,
+        (_, true) if c == column => zero,
+        (_, true) => 1.0 + random.small(3).abs(),
+        _ => random.small(3),
+    };
+    Dual { re, eps: random.small(3) }
+}
+
+pub fn vector(random: &mut Random, n: usize) -> Entries {
+    let re = |random: &mut Random| match random.below(6) {
+        0 => edge(random),
+        1 | 2 => random.small(3),
+        _ => random.scaled(-4, 4),
+    };
+    (0..n).map(|_| Dual { re: re(random), eps: slope(random) }).collect()
+}
+
+/// Factors that LU did not make: any entries, zeros on the diagonal among them, any order, and any
+/// swap count of the order's parity.
+pub fn lent(random: &mut Random, n: usize, style: Style) -> Factors {
+    let mut entries = matrix(random, n, style).entries;
+    for r in 0..n {
+        if random.chance(15) {
+            entries[r * n + r].re = if random.chance(50) { 0.0 } else { -0.0 };
+        }
+    }
+    let mut order: Vec<usize> = (0..n).collect();
+    random.shuffle(&mut order);
+    let odd = usize::from(is_odd(&order));
+    let swaps = odd + 2 * random.below(if odd == 1 { 16 } else { 17 });
+    Factors { n, entries, order, swaps }
+}
+
+fn is_odd(order: &[usize]) -> bool {
+    let before = |i: usize| order[..i].iter().filter(|x| **x > order[i]).count();
+    (0..order.len()).map(before).sum::<usize>() % 2 == 1
+}
+
+/// Matrices that show a rule of LU by themselves.
+pub fn explicit() -> Vec<Matrix> {
+    let tiny = f64::from_bits(1);
+    let large = 2f64.powi(1023);
+    let nan = f64::NAN;
+    let inf = f64::INFINITY;
+    matrices(&[
+        &[],
+        &[(0.0, 1.0)],
+        &[(-0.0, 1.0)],
+        &[(nan, 1.0)],
+        &[(inf, 1.0)],
+        &[(tiny, nan)],
+        &[(0.0, 1.0), (2.0, 0.0), (1.0, 0.0), (0.0, 0.0)],
+        &[(49.0, 0.0); 4],
+        &[(1.0, 0.0), (2.0, 0.0), (1.0, 0.0), (2.0, 0.0)],
+        &[(tiny, 0.0), (1.0, 0.0), (0.0, 0.0), (1.0, 0.0)],
+        &[(nan, 0.0), (1.0, 0.0), (1.0, 0.0), (nan, 0.0)],
+        &[(inf, 0.0), (1.0, 0.0), (inf, 0.0), (1.0, 0.0)],
+        &[(1.5 * large, 0.0), (1.0, 0.0), (1.5 * large, 0.0), (1.0, 0.0)],
+        &[(1.0, 0.0), (0.0, 0.0), (-1.0, 0.0), (1.0, 0.0)],
+        &[(-1.0, 0.0), (0.0, 0.0), (1.0, 0.0), (1.0, 0.0)],
+    ])
+}
+
+/// Matrices that show a rule of Jacobi by themselves.
+pub fn explicit_symmetric() -> Vec<Matrix> {
+    let faint = 2f64.powi(-600);
+    let huge = 2f64.powi(600);
+    let nan = f64::NAN;
+    matrices(&[
+        &[(-0.0, -0.0)],
+        &[(nan, nan)],
+        &[(3.0, 0.0), (0.0, 0.0), (0.0, 0.0), (1.0, 0.0)],
+        &[(2.0, 0.0), (1.0, 0.0), (99.0, 0.0), (2.0, 0.0)],
+        &[(2.0, 1.0), (1.0, 2.0), (nan, nan), (2.0, 3.0)],
+        &[(1.0, 0.0), (faint, 0.0), (faint, 0.0), (2.0, 0.0)],
+        &[(1.0, 0.0), (huge, 0.0), (huge, 0.0), (2.0, 0.0)],
+        &[(1.0, 0.0), (nan, 0.0), (0.0, 0.0), (2.0, 0.0)],
+        &[(1.0, 0.0), (0.0, 1.0), (0.0, 0.0), (2.0, 0.0)],
+        &[(-0.0, -0.0), (1.0, 0.0), (0.0, 0.0), (-0.0, -0.0)],
+        &[(nan, 0.0), (0.0, 0.0), (0.0, 0.0), (1.0, 0.0)],
+    ])
+}
+
+fn matrices(all: &[&[(f64, f64)]]) -> Vec<Matrix> {
+    let matrix = |entries: &&[(f64, f64)]| Matrix {
+        n: entries.len().isqrt(),
+        entries: entries.iter().map(|(re, eps)| Dual { re: *re, eps: *eps }).collect(),
+    };
+    all.iter().map(matrix).collect()
+}

@@ -1,0 +1,143 @@
+//! Requests for the records: which function of which records, with which values from outside.
+use crate::functions::{Argument, Description, Extra, Function};
+use crate::pool::{self, Pool};
+use crate::random::Random;
+use crate::words::float;
+
+/// One call. The records are places in the pool.
+#[derive(Debug)]
+pub struct Request {
+    pub records: Vec<Vec<u8>>,
+    pub argument: Argument,
+    /// Values for the outside functions, in the line's order; none: the Rust's own.
+    pub supplied: Option<Vec<f64>>,
+}
+
+/// All requests for one function: edges first, then random; where something comes from outside,
+/// the last three tenths carry arbitrary values. A constant has one case.
+pub fn requests(
+    random: &mut Random,
+    pool: &Pool,
+    description: &Description,
+    parts: usize,
+    cases: usize,
+) -> Vec<Request> {
+    let constant = description.records == 0 && description.extras.is_empty();
+    let cases = if constant { 1 } else { cases };
+    let own = if description.outside().is_empty() { cases } else { cases - cases * 3 / 10 };
+    let mut maker = Maker { random, pool, description, parts };
+    (0..cases).map(|i| maker.request(i, i < own)).collect()
+}
+
+struct Maker<'a> {
+    random: &'a mut Random,
+    pool: &'a Pool,
+    description: &'a Description,
+    parts: usize,
+}
+
+impl Maker<'_> {
+    fn request(&mut self, i: usize, own: bool) -> Request {
+        let first = pool::EDGES.end;
+        let mut records: Vec<Vec<u8>> =
+            (0..self.description.records).map(|r| self.record(i, r)).collect();
+        for (r, record) in records.iter_mut().enumerate() {
+            let place = i.wrapping_sub(first + 2 * r * self.parts);
+            if place < 2 * self.parts {
+                let special = if place < self.parts { pool::NAN } else { pool::INFINITY };
+                record[place % self.parts] = special;
+            }
+        }
+        let argument = Argument { float: self.float(i), exponent: self.exponent(i) };
+        let supplied = (!own).then(|| {
+            (self.description.outside().iter()).map(|_| self.pool.0[self.any() as usize]).collect()
+        });
+        Request { records, argument, supplied }
+    }
+
+    fn record(&mut self, i: usize, r: usize) -> Vec<u8> {
+        let real = if r == 0 && i < pool::EDGES.end { i as u8 } else { self.real(r) };
+        (0..self.parts).map(|part| if part == 0 { real } else { self.slope() }).collect()
+    }
+
+    /// A real part: an edge, one that the function is at home with, or any.
+    fn real(&mut self, r: usize) -> u8 {
+        match self.random.below(5) {
+            0 => Pool::place(self.random, pool::EDGES),
+            1 => Pool::place(self.random, pool::ANY),
+            _ if r > 0 => Pool::place(self.random, pool::MODERATE),
+            _ => match self.description.function {
+                Function::Asin | Function::Acos | Function::Atanh => {
+                    Pool::place(self.random, pool::UNIT)
+                }
+                Function::Acosh => self.pool.apt(self.random, |x| x > 1.0),
+                Function::Ln
+                | Function::Log
+                | Function::Log2
+                | Function::Log10
+                | Function::Powf
+                | Function::Powd
+                | Function::Sqrt => self.pool.apt(self.random, |x| x > 0.0),
+                _ => self.pool.apt(self.random, |_| true),
+            },
+        }
+    }
+
+    fn slope(&mut self) -> u8 {
+        match self.random.below(8) {
+            0 => Pool::place(self.random, pool::EDGES),
+            1 => Pool::place(self.random, pool::ANY),
+            2 => Pool::place(self.random, pool::UNIT),
+            _ => Pool::place(self.random, pool::MODERATE),
+        }
+    }
+
+    fn any(&mut self) -> u8 {
+        if self.random.chance(40) { self.slope() } else { Pool::place(self.random, pool::ANY) }
+    }
+
+    /// A plain float; for powf and log first the exponents and bases that matter.
+    fn float(&mut self, i: usize) -> f64 {
+        let listed: &[u64] = match self.description.function {
+            Function::Powf => &POWF_EXPONENTS,
+            Function::Log => &LOG_BASES,
+            _ => &[],
+        };
+        match listed.get(i % (listed.len() * 2).max(1)) {
+            Some(bits) => float(*bits),
+            None => self.pool.0[self.any() as usize],
+        }
+    }
+
+    fn exponent(&mut self, i: usize) -> i32 {
+        if !self.description.extras.contains(&Extra::Exponent) {
+            return 0;
+        }
+        match POWI_EXPONENTS.get(i % (POWI_EXPONENTS.len() + 5)) {
+            Some(exponent) => *exponent,
+            None => self.random.below(2049) as i32 - 1024,
+        }
+    }
+}
+
+/// Those beyond 1,024 either way the port refuses with 5.
+#[rustfmt::skip]
+const POWI_EXPONENTS: [i32; 20] = [
+    -1024, -1, 0, 1, 2, 3, 4, 1024, 1025, -1025, 5, -2, -3, 6, 7, 100, -1023, 1023, i32::MAX, i32::MIN,
+];
+
+#[rustfmt::skip]
+const POWF_EXPONENTS: [u64; 24] = [
+    0x0000000000000000, 0x8000000000000000, 0x3ff0000000000000, 0x3fefffffffffffff, // 0, 1
+    0x3ff0000000000001, 0x4000000000000000, 0x3fffffffffffffff, 0x4000000000000001, // 2
+    0x4008000000000000, 0x4010000000000000, 0x3fe0000000000000, 0xbfe0000000000000, // 3, 4, 1/2
+    0xbff0000000000000, 0xc000000000000000, 0x3fd5555555555555, 0x4004000000000000, // -1, -2, 1/3
+    0x0000000000000001, 0x8000000000000001, 0x3cb0000000000000, 0x7fefffffffffffff,
+    0x7ff0000000000000, 0xfff0000000000000, 0x7ff8000000000000, 0x4340000000000000,
+];
+
+#[rustfmt::skip]
+const LOG_BASES: [u64; 8] = [
+    0x4000000000000000, 0x4024000000000000, 0x4005bf0a8b145769, 0x3fe0000000000000, // 2, 10, e
+    0x3ff0000000000000, 0x0000000000000000, 0xbff0000000000000, 0x7ff0000000000000,
+];
