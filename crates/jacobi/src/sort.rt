@@ -19,7 +19,7 @@ fn smaller(n: usize, d: &[f64], l: usize, m: usize) -> usize
 {
     let x = read(d, l);
     let y = read(d, m);
-    if x.lt(y) {
+    if x.re < y.re {
         return l;
     }
     m
