@@ -15,7 +15,7 @@ use Rattle.algebra.specs.Algebra.{Algebra, Keeps, zeroOf}
 use Rattle.algebra.specs.Flat.{tabulate}
 use Rattle.algebra.proofs.Flat.{tabulate-length, tabulate-at}
 use Rattle.matrices.specs.Matrix.{cell, store}
-use Rattle.jacobi.specs.Sort.{Eigen, eigen, jacobiOf}
+use Rattle.jacobi.specs.Sort.{eigen, jacobiOf}
 use Rattle.rotations.proofs.Carry.{Follows, cell-map, store-map}
 use Rattle.jacobi.proofs.Carry.{mapEigen, jacobi-carry}
 

@@ -4,7 +4,7 @@ use mathlib.Core.Path.{_≡_, refl, ap, sym, _∙_}
 use mathlib.Core.Bool.{Bool, true, false, cond}
 use mathlib.Core.List.{List}
 use native.Mathlib.Omega.{arith}
-use lib.Dec.{T, eqb}
+use lib.Dec.{T}
 use lib.ListN.{length, take, replicate, length-replicate}
 use lib.Seq.{length-take-le}
 use lib.IntN.{pos}
@@ -48,9 +48,9 @@ module _ {R : Type 0} (A : Algebra R) (n : ℕ) where
   unfolding addSquare
   square-by a j i sum x e = ap (λ (y : R). sum ⊕ A .re y ⊗ A .re y) e
 
-  pub smaller-by : (d : List R) (l m : ℕ) (x y : R) (b : Bool) → x ≡ item A d l → y ≡ item A d m → b ≡ lt (A .re x) (A .re y) → (t : Bool) → b ≡ t → cond t l m ≡ smaller A n d l m
+  pub smaller-by : (d : List R) (l m : ℕ) (x y : R) → x ≡ item A d l → y ≡ item A d m → (t : Bool) → lt (A .re x) (A .re y) ≡ t → cond t l m ≡ smaller A n d l m
   unfolding smaller
-  smaller-by d l m x y b ex ey eb t et = ap (λ (c : Bool). cond c l m) (sym et ∙ eb ∙ (λ i. lt (A .re (ex i)) (A .re (ey i))))
+  smaller-by d l m x y ex ey t et = ap (λ (c : Bool). cond c l m) (sym et ∙ (λ i. lt (A .re (ex i)) (A .re (ey i))))
 
   -- the least from k on is at k already, or is brought there
   pub select-stays : (k m : ℕ) (e : Pairs R) → m ≡ least A n (e .d) k → m ≡ k → e ≡ select A n k e

@@ -1,9 +1,9 @@
 -- What carries a run of Jacobi over one record to the run over another: a map of records that keeps the operations, and a map of matrices that keeps what
 -- stands on and above the diagonal. Once over the record. Assumes nothing.
-use Prim.Native.Nat.{ℕ, zero, suc, _+_, _-_, _*_, _≤_, _<_}
+use Prim.Native.Nat.{ℕ, zero, _+_, _-_, _*_}
 use mathlib.Core.Path.{_≡_, refl, ap, sym, _∙_}
-use mathlib.Core.Bool.{Bool, true, false, cond}
-use mathlib.Core.List.{List, [], _∷_, map}
+use mathlib.Core.Bool.{cond}
+use mathlib.Core.List.{List, map}
 use native.Mathlib.Omega.{arith}
 use lib.Dec.{eqb}
 use lib.ListN.{getD, set, replicate, List·getD-map}
@@ -16,7 +16,7 @@ use Rattle.algebra.specs.Algebra.{Algebra, Keeps, zeroOf, oneOf}
 use Rattle.algebra.specs.Loop.{upto}
 use Rattle.algebra.proofs.Loop.{upto-carry, upto-map}
 use Rattle.matrices.specs.Matrix.{cell, store, exchange}
-use Rattle.rotations.specs.Rotation.{Work, work, item, pair}
+use Rattle.rotations.specs.Rotation.{Work, work, pair}
 use Rattle.rotations.proofs.Carry.{cond-map, map-set, map-replicate, re-keeps, item-keeps, mapWork, Follows, store-map, pair-carry}
 use Rattle.jacobi.specs.Sweeps.{Run, going, settled, addSquare, columnSquares, sumOfSquares, thresholdOf, row, sweep, addItem, addAll, closeSweep, step, putOne, identity, putDiagonal, diagonal, start, sweepsOf}
 use Rattle.jacobi.specs.Sort.{Pairs, pairs, Eigen, smaller, least, exchangeInRow, exchangeColumns, bring, select, sort, eigen, ended, ordered, jacobiOf}

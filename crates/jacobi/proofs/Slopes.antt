@@ -4,23 +4,21 @@ use Prim.Native.Nat.{ℕ, zero, suc, _+_, _*_, _/_, _≤_, _<_}
 use mathlib.Core.Path.{_≡_, refl, ap, sym, _∙_}
 use mathlib.Core.Bool.{Bool, true, false, cond, _&&_}
 use mathlib.Core.List.{List, map}
-use native.Mathlib.Nat.{add-zero}
 use native.Mathlib.Omega.{arith}
 use lib.Dec.{ltb, eqb}
-use lib.ListN.{length, getD}
+use lib.ListN.{length}
 use lib.Ieee.{Float}
 use borrow.Author.Tests.{ltb-false, eqb-true, eqb-false, eq-eqb, ne-eqb}
-use Rattle.real.specs.Operations as float
 use Rattle.algebra.specs.Algebra.{Algebra, RealParts, reals, zeroOf}
-use Rattle.algebra.specs.Flat.{Layout, Lawful, Agrees, realParts, recordAt, recordCount, decode, encode}
-use Rattle.algebra.specs.Outcome.{Outcome, value, refused}
+use Rattle.algebra.specs.Flat.{Layout, Lawful, Agrees, realParts, recordAt, decode, encode}
+use Rattle.algebra.specs.Outcome.{value, refused}
 use Rattle.algebra.proofs.Flat.{decode-reals, decode-encode, decode-size, decode-at, decode-length, record-same}
 use Rattle.matrices.specs.Matrix.{cell}
 use Rattle.matrices.proofs.Places.{place}
 use Rattle.matrices.proofs.Permutation.{both}
 use Rattle.jacobi.specs.Sort.{Eigen, jacobiOf}
-use Rattle.jacobi.specs.Entry.{jacobiRefusal, JacobiLeft, jacobiAnswered, jacobiDone, jacobiLeft}
-use Rattle.jacobi.specs.SameReals.{SameAbove, Finished, SameJacobi}
+use Rattle.jacobi.specs.Entry.{jacobiRefusal, jacobiAnswered, jacobiDone, jacobiLeft}
+use Rattle.jacobi.specs.SameReals.{SameAbove, SameJacobi}
 use Rattle.jacobi.proofs.Carry.{mapEigen}
 use Rattle.jacobi.proofs.Above.{above, below-unread, above-same, jacobi-seen, map-same}
 

@@ -7,7 +7,7 @@ use lib.Ieee.{lt}
 use Rattle.algebra.specs.Algebra.{Algebra, zeroOf}
 use Rattle.algebra.specs.Loop.{upto}
 use Rattle.matrices.specs.Matrix.{exchange}
-use Rattle.rotations.specs.Rotation.{Work, item}
+use Rattle.rotations.specs.Rotation.{item}
 use Rattle.jacobi.specs.Sweeps.{Run, going, settled, sweepsOf}
 
 -- eigenvalues d and vectors v, a column each

@@ -4,7 +4,7 @@ mod sort;
 mod sweeps;
 
 ghost use mathlib.Core.Path.{_≡_};
-ghost use Prim.Native.Nat.{ℕ, _*_, _<_, _≤_};
+ghost use Prim.Native.Nat.{_*_, _<_, _≤_};
 ghost use lib.ListN.{length};
 ghost use Rattle.dual.specs.Rules.{dualAlgebra, dualLayout};
 ghost use Rattle.dual_cells.specs.Records.{records};

@@ -2,7 +2,7 @@
 use dual_cells::exchange;
 use dual_cells::read;
 ghost use mathlib.Core.Path.{_≡_};
-ghost use Prim.Native.Nat.{ℕ, _+_, _*_, _<_, _≤_};
+ghost use Prim.Native.Nat.{_+_, _*_, _<_};
 ghost use lib.ListN.{length};
 ghost use Rattle.dual.specs.Rules.{dualAlgebra};
 ghost use Rattle.dual_cells.specs.Records.{records};
@@ -19,7 +19,7 @@ fn smaller(n: usize, d: &[f64], l: usize, m: usize) -> usize
 {
     let x = read(d, l);
     let y = read(d, m);
-    if x.lt(y) {
+    if x.re < y.re {
         return l;
     }
     m

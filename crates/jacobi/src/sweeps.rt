@@ -1,7 +1,6 @@
 // The sweeps of a run.
 use super::Ended;
 use super::Step;
-use dual::Dual;
 use dual_cells::get;
 use dual_cells::read;
 use dual_cells::write;
@@ -9,7 +8,7 @@ use matrices::floats;
 use rotations::pair;
 ghost use mathlib.Core.Path.{_≡_};
 ghost use mathlib.Core.Bool.{true, false};
-ghost use Prim.Native.Nat.{ℕ, _+_, _*_, _<_, _≤_};
+ghost use Prim.Native.Nat.{_+_, _*_, _<_, _≤_};
 ghost use lib.ListN.{length, replicate};
 ghost use Rattle.algebra.specs.Algebra.{zeroOf};
 ghost use Rattle.algebra.specs.Loop.{upto};

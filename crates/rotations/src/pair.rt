@@ -1,5 +1,4 @@
 // One entry above the diagonal, by what is chosen for it.
-use super::Angle;
 use super::Choice;
 use super::choose;
 use super::turn;
@@ -8,10 +7,9 @@ use dual_cells::get;
 use dual_cells::put;
 use dual_cells::read;
 ghost use mathlib.Core.Path.{_≡_};
-ghost use Prim.Native.Nat.{ℕ, _+_, _*_, _<_, _≤_};
+ghost use Prim.Native.Nat.{_+_, _<_, _≤_};
 ghost use Rattle.dual.specs.Rules.{dualAlgebra};
-ghost use Rattle.dual_cells.specs.Records.{records};
-ghost use Rattle.rotations.specs.Rotation.{angle, work, pair};
+ghost use Rattle.rotations.specs.Rotation.{angle, pair};
 ghost use Rattle.rotations.specs.Rotation as rule;
 ghost use Rattle.rotations.specs.Buffers.{Sized, workOf};
 

@@ -5,7 +5,7 @@ use dual_cells::put;
 use dual_cells::read;
 use dual_cells::write;
 ghost use mathlib.Core.Path.{_≡_};
-ghost use Prim.Native.Nat.{ℕ, _+_, _*_, _<_, _≤_};
+ghost use Prim.Native.Nat.{_+_, _*_, _<_, _≤_};
 ghost use lib.ListN.{length};
 ghost use Rattle.dual.specs.Rules.{dualAlgebra};
 ghost use Rattle.dual_cells.specs.Records.{records};

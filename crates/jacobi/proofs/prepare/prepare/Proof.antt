@@ -1,4 +1,3 @@
-use mathlib.Core.Path.{ap, _∙_}
 use native.Mathlib.Omega.{arith}
 use Rattle.dual_cells.specs.Records.{records}
 use Rattle.rotations.specs.Rotation.{work}

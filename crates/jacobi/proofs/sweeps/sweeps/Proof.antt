@@ -8,7 +8,7 @@ use Rattle.algebra.specs.Loop.{upto}
 use Rattle.algebra.proofs.Loop.{upto-turn, upto-end}
 use Rattle.dual.specs.Rules.{dualAlgebra}
 use Rattle.dual_cells.specs.Records.{records}
-use Rattle.rotations.specs.Buffers.{Sized, workOf}
+use Rattle.rotations.specs.Buffers.{Sized}
 use Rattle.jacobi.specs.Sweeps.{step}
 use Rattle.jacobi.specs.Sort.{eigen, ended}
 use Rattle.jacobi.specs.declared.Step.{Step}

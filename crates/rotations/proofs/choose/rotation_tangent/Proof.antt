@@ -1,5 +1,4 @@
 use mathlib.Core.Path.{ap, _∙_}
-use Rattle.real.specs.Operations.{half}
 use Rattle.dual.specs.Rules.{dualDiv, dualAlgebra}
 use Rattle.dual.specs.declared.Dual.{Dual}
 use Rattle.rotations.specs.Rotation.{tangentOf}
