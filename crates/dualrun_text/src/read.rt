@@ -25,10 +25,16 @@ fn byte_at(text: &[u8], p: usize) -> u8
 fn digit_value(b: u8) -> u64
     ensures { λ r. ⌜ r ≡ digitValue b ⌝ }
 {
-    if b'0' <= b && b <= b'9' {
+    if b < b'0' {
+        return 16;
+    }
+    if b <= b'9' {
         return (b - b'0') as u64;
     }
-    if b'a' <= b && b <= b'f' {
+    if b < b'a' {
+        return 16;
+    }
+    if b <= b'f' {
         return (b - 87) as u64;
     }
     16

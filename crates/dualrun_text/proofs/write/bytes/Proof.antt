@@ -1,45 +1,45 @@
+-- `dualrun_text::write::bytes` meets its contract. Assumes nothing.
+use Prim.Native.Nat.{ℕ, _+_, _-_, _≤_, _<_}
+use mathlib.Core.Path.{_≡_, refl, sym, ap, _∙_}
+use mathlib.Core.List.{List, [], _∷_, _++_}
+use lib.ListN.{length, take}
+use lib.Seq.{take-suc, take-all}
+use denote.Ref.{now}
+use native.Mathlib.Numerals.{add-one}
+use native.Mathlib.Omega.{arith}
+use Rattle.dualrun_text.specs.Page.{Page, page, written}
+use Rattle.dualrun_text.proofs.Page.{then, written-length}
 use borrow.Author.Needs.{needs}
 use Rattle.dualrun_text.proofs.write.bytes.Statement.{statement}
 use Rattle.dualrun_text.proofs.write.bytes.Tie as tie
-use Rattle.dualrun_text.proofs.write.bytes.Reads as reads
-use Rattle.dualrun_text.proofs.write.bytes.Lts as lts
-use Rattle.dualrun_text.proofs.write.byte.Reads as byte-reads
 
 abbrev Inv-loop : tie.InvT-loop
-Inv-loop out₀ at text end₀ i₀ out end i = ?
+Inv-loop out₀ at text end₀ i₀ out end i = (i ≤ length text) × (page out end ≡ written (page out₀ at) (take i text))
 
 abbrev μ-loop : tie.MeasureT-loop
-μ-loop out₀ at text end₀ i₀ out end i = ?
+μ-loop out₀ at text end₀ i₀ out end i = length text - i
 
--- src/write.rt:25:5
 loop-holds : tie.Need-loop-holds Inv-loop μ-loop
 loop-holds c = search needs
 
--- src/write.rt:26:30
 shared-slice-read-byte : tie.Need-shared-slice-read-byte Inv-loop μ-loop
 shared-slice-read-byte c = search needs
 
--- src/write.rt:26:9
 byte-requires : tie.Need-byte-requires Inv-loop μ-loop
 byte-requires c κs = search needs
 
--- src/write.rt:27:9
 add-i : tie.Need-add-i Inv-loop μ-loop
 add-i c = search needs
 
--- src/write.rt:25:5
 loop-less : tie.Need-loop-less Inv-loop μ-loop
 loop-less c = search needs
 
--- src/write.rt:25:5
 loop-again : tie.Need-loop-again Inv-loop μ-loop
 loop-again c = search needs
 
--- src/write.rt:20:1
 same-length : tie.Need-same-length Inv-loop μ-loop
 same-length c = search needs
 
--- src/write.rt:20:1
 returns : tie.Need-returns Inv-loop μ-loop
 returns c = search needs
 

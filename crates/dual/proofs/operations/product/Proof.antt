@@ -1,0 +1,68 @@
+use borrow.Author.Needs.{needs}
+use borrow.Author.Tests.{eq-eqb, ne-eqb}
+use native.Mathlib.Omega.{arith}
+use Prim.Native.Nat.{ℕ, _≤_, _-_}
+use mathlib.Core.Path.{_≡_, refl, ap, _∙_}
+use mathlib.Core.List.{List}
+use lib.Ieee.{Float}
+use Rattle.algebra.specs.Algebra.{oneOf}
+use Rattle.algebra.specs.Flat.{recordAt, productOf}
+use Rattle.algebra.specs.Loop.{upto}
+use Rattle.algebra.specs.Outcome.{value}
+use Rattle.algebra.proofs.Loop.{upto-turn, upto-end}
+use Rattle.dual.specs.declared.Dual.{Dual}
+use Rattle.dual.specs.Rules.{dualMul, dualAlgebra, dualLayout}
+use Rattle.dual.proofs.operations.product.Statement.{statement}
+use Rattle.dual.proofs.operations.product.Tie as tie
+
+abbrev turn : List Float → ℕ → Dual → Dual
+turn floats p acc = dualMul acc (recordAt dualLayout floats p)
+
+abbrev Inv-loop : tie.InvT-loop
+Inv-loop floats count acc₀ p₀ acc p = (p ≤ count) × (upto p count (turn floats) acc ≡ upto 0 count (turn floats) (oneOf dualAlgebra))
+
+abbrev μ-loop : tie.MeasureT-loop
+μ-loop floats count acc₀ p₀ acc p = count - p
+
+returns : tie.Need-returns Inv-loop μ-loop
+unfolding productOf
+returns c = rw (ne-eqb _ _ (c .if1 .taken))
+
+loop-holds : tie.Need-loop-holds Inv-loop μ-loop
+loop-holds c = (search needs, refl)
+
+record-at-requires : tie.Need-record-at-requires Inv-loop μ-loop
+record-at-requires c κs = omega arith
+
+mul-requires : tie.Need-mul-requires Inv-loop μ-loop
+mul-requires c κs = search needs
+
+add-p : tie.Need-add-p Inv-loop μ-loop
+add-p c = omega arith
+
+loop-less : tie.Need-loop-less Inv-loop μ-loop
+loop-less c = omega arith
+
+loop-again : tie.Need-loop-again Inv-loop μ-loop
+loop-again c =
+    let at = c .before .before .before in
+    (omega arith, upto-turn (at .loop .p) _ _ _ _ (c .before .before .loop-test .taken) (c .mul .ensures ∙ ap (dualMul (at .loop .acc)) (c .before .record-at .ensures)) (at .loop .inv .1))
+
+returns-2 : tie.Need-returns-2 Inv-loop μ-loop
+unfolding productOf
+returns-2 c = rw (eq-eqb _ _ (c .before .before .if1 .left)) (ap value (upto-end (c .before .loop .p) _ _ _ (c .loop-test .left) (c .before .loop .inv .1)))
+
+pub product-spec : {M : Type 1} → statement M
+product-spec =
+    tie.close
+    (tie.spec
+    Inv-loop
+    μ-loop
+    returns
+    loop-holds
+    record-at-requires
+    mul-requires
+    add-p
+    loop-less
+    loop-again
+    returns-2)

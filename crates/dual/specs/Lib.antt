@@ -1,0 +1,2 @@
+-- What the contracts of `Dual` are written with. Definitions only.
+pub mod Rules

@@ -1,0 +1,30 @@
+-- A test of every number below a bound, as a loop with an early answer makes it. Assumes nothing.
+use Prim.Native.Nat.{ℕ, zero, suc, _<_, _≤_}
+use mathlib.Core.Path.{_≡_, refl, sym, ap, _∙_, subst}
+use mathlib.Core.Bool.{Bool, true, false, _&&_}
+use native.Mathlib.Omega.{arith}
+use lib.Dec.{ltb}
+use borrow.Author.Tests.{ltb-true, ltb-false}
+use Rattle.dualrun_text.specs.Digits.{every}
+
+and-false : (b : Bool) → (b && false) ≡ false
+and-false true = refl
+and-false false = refl
+
+module _ (p : ℕ → Bool) where
+  pub every-true : (n : ℕ) → ((k : ℕ) → k < n → p k ≡ true) → every p n ≡ true
+  unfolding every
+  every-true zero h = refl
+  every-true (suc n) h = ap (λ (b : Bool). b && p n) (every-true n (λ k lt. h k (omega arith))) ∙ h n (omega arith)
+
+  pub every-false : (n k : ℕ) → k < n → p k ≡ false → every p n ≡ false
+  unfolding every
+  every-false zero k lt e = absurd (omega arith)
+  every-false (suc n) k lt e = by (ltb k n) refl
+    where
+      by : (b : Bool) → ltb k n ≡ b → (every p n && p n) ≡ false
+      by true t = ap (λ (b : Bool). b && p n) (every-false n k (ltb-true k n t) e)
+      by false t = ap (λ (b : Bool). every p n && b) (ap p (last (ltb-false k n t)) ∙ e) ∙ and-false (every p n)
+        where
+          last : (h : n ≤ k) → n ≡ k
+          last h = omega arith

@@ -1,0 +1,4 @@
+-- Laws that the proofs cite. Assumes nothing.
+mod Every
+mod Digits
+mod Page

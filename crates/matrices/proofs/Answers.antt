@@ -1,0 +1,217 @@
+-- The entries over any record: which facts a call that is not refused may take for granted, and demand 3 of what two calls leave. Assumes nothing.
+use Prim.Native.Nat.{ℕ, zero, suc, _*_, _≤_, _<_}
+use mathlib.Core.Path.{_≡_, refl, ap, sym, _∙_}
+use mathlib.Core.Bool.{Bool, true, false, cond, _&&_, _||_}
+use mathlib.Core.List.{List, map}
+use native.Mathlib.Omega.{arith}
+use lib.Dec.{ltb, eqb}
+use lib.ListN.{length, replicate}
+use lib.Ieee.{Float}
+use borrow.Author.Tests.{ltb-false, eqb-true, eqb-false, eq-eqb, ne-eqb}
+use Rattle.real.specs.Operations as float
+use Rattle.algebra.specs.Algebra.{Algebra, RealParts, reals}
+use Rattle.algebra.specs.Flat.{Layout, Lawful, Agrees, realParts, decode, encode}
+use Rattle.algebra.specs.Outcome.{Outcome, value, refused, mapOutcome}
+use Rattle.algebra.proofs.Flat.{decode-reals, decode-encode}
+use Rattle.matrices.specs.Entries.{luRefusal, orderRefusal, swapsRefusal, solveRefusal, inverseRefusal, determinantRefusal, LuLeft, luAnswered, SolveLeft, solveAnswered, luFinish, luLeft, solveLeft, inverseLeft, determinantLeft}
+use Rattle.matrices.specs.Determinant.{determinantOf}
+use Rattle.matrices.specs.Inverse.{inverseOf}
+use Rattle.matrices.specs.Lu.{Run, going, singular, luOf}
+use Rattle.matrices.specs.Order.{Order, isOrder, differ, parity, isOdd}
+use Rattle.matrices.specs.SameReals.{Wrote, SameLu, SameSolve}
+use Rattle.matrices.specs.Solve.{solveOf}
+use Rattle.matrices.proofs.Permutation.{both, isOrder-order}
+use Rattle.matrices.proofs.Slopes.{mapRun, lu-map, solve-map, inverse-map, determinant-map}
+
+-- ---- what a number of 0 tells
+
+passed : (t : Bool) (k x : ℕ) → cond t (suc k) x ≡ 0 → (t ≡ false) × (x ≡ 0)
+passed true k x e = absurd (omega arith)
+passed false k x e = (refl, e)
+
+allowed : (t : Bool) (k x : ℕ) → cond t x (suc k) ≡ 0 → (t ≡ true) × (x ≡ 0)
+allowed true k x e = (refl, e)
+allowed false k x e = absurd (omega arith)
+
+pub record LuFits (w n a f p : ℕ) : Type 0 where
+  pub small : n ≤ 32
+  pub input : a ≡ n * n * w
+  pub factors : f ≡ n * n * w
+  pub order : p ≡ n
+
+pub lu-fits : (w n a factors order : ℕ) → luRefusal w n a factors order ≡ 0 → LuFits w n a factors order
+lu-fits w n a f o e =
+    let s = passed (ltb 32 n) 0 _ e in
+    let l = allowed (eqb a (n * n * w) && (eqb f (n * n * w) && eqb o n)) 1 0 (s .1) in
+    let x = both (eqb a (n * n * w)) (eqb f (n * n * w) && eqb o n) (l .0) in
+    let y = both (eqb f (n * n * w)) (eqb o n) (x .1) in
+    record { small = ltb-false 32 n (s .0); input = eqb-true _ _ (x .0); factors = eqb-true _ _ (y .0); order = eqb-true _ _ (y .1) }
+
+-- what solve, inverse and determinant have in common
+pub record LentFits (w n f : ℕ) (p : List ℕ) : Type 0 where
+  pub small : n ≤ 32
+  pub factors : f ≡ n * n * w
+  pub order : Order n p
+
+pub solve-fits : (w n factors : ℕ) (order : List ℕ) (b x : ℕ) → solveRefusal w n factors order b x ≡ 0 → LentFits w n factors order × ((b ≡ n * w) × (x ≡ n * w))
+solve-fits w n f o b x e =
+    let s = passed (ltb 32 n) 0 _ e in
+    let l = allowed (eqb f (n * n * w) && (eqb (length o) n && (eqb b (n * w) && eqb x (n * w)))) 1 (orderRefusal n o) (s .1) in
+    let p = both (eqb f (n * n * w)) (eqb (length o) n && (eqb b (n * w) && eqb x (n * w))) (l .0) in
+    let q = both (eqb (length o) n) (eqb b (n * w) && eqb x (n * w)) (p .1) in
+    let r = both (eqb b (n * w)) (eqb x (n * w)) (q .1) in (
+      record { small = ltb-false 32 n (s .0); factors = eqb-true _ _ (p .0); order = isOrder-order n o (eqb-true _ _ (q .0)) (allowed (isOrder n o) 6 0 (l .1) .0) },
+      (eqb-true _ _ (r .0), eqb-true _ _ (r .1)),
+    )
+
+pub inverse-fits : (w n factors : ℕ) (order : List ℕ) (out : ℕ) → inverseRefusal w n factors order out ≡ 0 → LentFits w n factors order × (out ≡ n * n * w)
+inverse-fits w n f o x e =
+    let s = passed (ltb 32 n) 0 _ e in
+    let l = allowed (eqb f (n * n * w) && (eqb (length o) n && eqb x (n * n * w))) 1 (orderRefusal n o) (s .1) in
+    let p = both (eqb f (n * n * w)) (eqb (length o) n && eqb x (n * n * w)) (l .0) in
+    let q = both (eqb (length o) n) (eqb x (n * n * w)) (p .1) in
+    (record { small = ltb-false 32 n (s .0); factors = eqb-true _ _ (p .0); order = isOrder-order n o (eqb-true _ _ (q .0)) (allowed (isOrder n o) 6 0 (l .1) .0) }, eqb-true _ _ (q .1))
+
+pub determinant-fits : (w n factors : ℕ) (order : List ℕ) (swaps : ℕ) → determinantRefusal w n factors order swaps ≡ 0 → LentFits w n factors order
+determinant-fits w n f o swaps e =
+    let s = passed (ltb 32 n) 0 _ e in
+    let l = allowed (eqb f (n * n * w) && eqb (length o) n) 1 (cond (isOrder n o) (swapsRefusal o swaps) 7) (s .1) in
+    let p = both (eqb f (n * n * w)) (eqb (length o) n) (l .0) in
+    record { small = ltb-false 32 n (s .0); factors = eqb-true _ _ (p .0); order = isOrder-order n o (eqb-true _ _ (p .1)) (allowed (isOrder n o) 6 (swapsRefusal o swaps) (l .1) .0) }
+
+-- ---- the two ways out of an entry
+
+picked : {S : Type 0} (k : ℕ) (x y : S) → k ≡ 0 → x ≡ cond (eqb k 0) x y
+picked k x y e = rw (eq-eqb k 0 e) refl
+
+turned : {S : Type 0} (k : ℕ) (x y : S) → (k ≡ 0 → ⊥) → y ≡ cond (eqb k 0) x y
+turned k x y e = rw (ne-eqb k 0 e) refl
+
+module _ {R : Type 0} (A : Algebra R) (L : Layout R) (n : ℕ) where
+  pub lu-done : (a f : List Float) (o : List ℕ) → luRefusal (L .width) n (length a) (length f) (length o) ≡ 0 → luFinish A L n (luOf A n (decode L a)) ≡ luLeft A L n a f o
+  unfolding luLeft
+  lu-done a f o e = picked (luRefusal (L .width) n (length a) (length f) (length o)) _ _ e
+
+  pub lu-refused : (a f : List Float) (o : List ℕ) (k : ℕ) → k ≡ luRefusal (L .width) n (length a) (length f) (length o) → (k ≡ 0 → ⊥) → luAnswered (refused k) 0 f o ≡ luLeft A L n a f o
+  unfolding luLeft
+  lu-refused a f o k e ne =
+      ap (λ (j : ℕ). luAnswered (refused j) 0 f o) e ∙ turned (luRefusal (L .width) n (length a) (length f) (length o)) _ _ (λ z. ne (e ∙ z))
+
+  pub solve-done : (f : List Float) (o : List ℕ) (b x : List Float) → solveRefusal (L .width) n (length f) o (length b) (length x) ≡ 0
+      → solveAnswered (value tt) (encode L (solveOf A n (decode L f) o (decode L b))) ≡ solveLeft A L n f o b x
+  unfolding solveLeft
+  solve-done f o b x e = picked (solveRefusal (L .width) n (length f) o (length b) (length x)) _ _ e
+
+  pub solve-refused : (f : List Float) (o : List ℕ) (b x : List Float) (k : ℕ) → k ≡ solveRefusal (L .width) n (length f) o (length b) (length x) → (k ≡ 0 → ⊥)
+      → solveAnswered (refused k) x ≡ solveLeft A L n f o b x
+  unfolding solveLeft
+  solve-refused f o b x k e ne = ap (λ (j : ℕ). solveAnswered (refused j) x) e ∙ turned (solveRefusal (L .width) n (length f) o (length b) (length x)) _ _ (λ z. ne (e ∙ z))
+
+  pub inverse-done : (f : List Float) (o : List ℕ) (x : List Float) → inverseRefusal (L .width) n (length f) o (length x) ≡ 0
+      → solveAnswered (value tt) (encode L (inverseOf A n (decode L f) o)) ≡ inverseLeft A L n f o x
+  unfolding inverseLeft
+  inverse-done f o x e = picked (inverseRefusal (L .width) n (length f) o (length x)) _ _ e
+
+  pub inverse-refused : (f : List Float) (o : List ℕ) (x : List Float) (k : ℕ) → k ≡ inverseRefusal (L .width) n (length f) o (length x) → (k ≡ 0 → ⊥)
+      → solveAnswered (refused k) x ≡ inverseLeft A L n f o x
+  unfolding inverseLeft
+  inverse-refused f o x k e ne = ap (λ (j : ℕ). solveAnswered (refused j) x) e ∙ turned (inverseRefusal (L .width) n (length f) o (length x)) _ _ (λ z. ne (e ∙ z))
+
+  pub determinant-done : (f : List Float) (o : List ℕ) (s : ℕ) → determinantRefusal (L .width) n (length f) o s ≡ 0
+      → value (determinantOf A n (decode L f) s) ≡ determinantLeft A L n f o s
+  unfolding determinantLeft
+  determinant-done f o s e = picked (determinantRefusal (L .width) n (length f) o s) _ _ e
+
+  pub determinant-refused : (f : List Float) (o : List ℕ) (s k : ℕ) → k ≡ determinantRefusal (L .width) n (length f) o s → (k ≡ 0 → ⊥)
+      → refused k ≡ determinantLeft A L n f o s
+  unfolding determinantLeft
+  determinant-refused f o s k e ne = ap (λ (j : ℕ). refused j) e ∙ turned (determinantRefusal (L .width) n (length f) o s) _ _ (λ z. ne (e ∙ z))
+
+-- ---- demand 3 of what two calls leave
+
+module _ {R : Type 0} (A : Algebra R) (L : Layout R) (W : Lawful L) (G : Agrees A L) (K : RealParts A) (n : ℕ) where
+  -- floats with the same real parts hold records that the real algebra cannot tell apart
+  same-reals : (l l′ : List Float) → realParts (L .width) l ≡ realParts (L .width) l′ → map (A .re) (decode L l) ≡ map (A .re) (decode L l′)
+  same-reals l l′ e = decode-reals L W A G l ∙ e ∙ sym (decode-reals L W A G l′)
+
+  encode-reals : (m : List R) → realParts (L .width) (encode L m) ≡ map (A .re) m
+  encode-reals m = sym (decode-reals L W A G (encode L m)) ∙ ap (map (A .re)) (decode-encode L W m)
+
+  -- what is seen of a finished run but for the slopes comes from the run over the real parts
+  seen : LuLeft → LuLeft
+  seen x = luAnswered (x .answer) (x .column) (realParts (L .width) (x .factors)) (x .order)
+
+  seenRun : Run Float → LuLeft
+  seenRun (going a p swaps) = luAnswered (value swaps) 0 a p
+  seenRun (singular c) = luAnswered (refused 6) c (realParts (L .width) (replicate (n * n * L .width) float.zero)) (replicate n 0)
+
+  finish-seen : (r : Run R) → seen (luFinish A L n r) ≡ seenRun (mapRun (map (A .re)) r)
+  unfolding seen seenRun
+  finish-seen (going a p swaps) = ap (λ (l : List Float). luAnswered (value swaps) 0 l p) (encode-reals a)
+  finish-seen (singular c) = refl
+
+  lu-seen : (a a′ : List Float) → realParts (L .width) a ≡ realParts (L .width) a′ → seen (luFinish A L n (luOf A n (decode L a))) ≡ seen (luFinish A L n (luOf A n (decode L a′)))
+  lu-seen a a′ e =
+      let same = lu-map A reals (A .re) K n (decode L a) ∙ ap (luOf reals n) (same-reals a a′ e) ∙ sym (lu-map A reals (A .re) K n (decode L a′)) in
+      finish-seen (luOf A n (decode L a)) ∙ ap seenRun same ∙ sym (finish-seen (luOf A n (decode L a′)))
+
+  -- LU
+  pub lu-same : (a a′ f f′ : List Float) (p p′ : List ℕ) → length a ≡ length a′ → realParts (L .width) a ≡ realParts (L .width) a′ → length f ≡ length f′ → length p ≡ length p′
+      → SameLu (L .width) (luLeft A L n a f p) (luLeft A L n a′ f′ p′)
+  unfolding luLeft seen
+  lu-same a a′ f f′ p p′ ha e hf hp =
+      rw (ha, hf, hp) (go (ltb 32 n) (eqb (length a′) (n * n * L .width) && (eqb (length f′) (n * n * L .width) && eqb (length p′) n)) (luFinish A L n (luOf A n (decode L a))) (luFinish A L n (luOf A n (decode L a′))) (lu-seen a a′ e))
+    where
+      go : (s t : Bool) (x y : LuLeft) → seen x ≡ seen y
+          → SameLu (L .width) (cond (eqb (cond s 1 (cond t 0 2)) 0) x (luAnswered (refused (cond s 1 (cond t 0 2))) 0 f p)) (cond (eqb (cond s 1 (cond t 0 2)) 0) y (luAnswered (refused (cond s 1 (cond t 0 2))) 0 f′ p′))
+      go true t x y e = record { answer = refl; column = refl; order = λ w. absurd (omega arith); factors = λ w. absurd (omega arith) }
+      go false false x y e = record { answer = refl; column = refl; order = λ w. absurd (omega arith); factors = λ w. absurd (omega arith) }
+      go false true x y e = record { answer = ap (λ (z : LuLeft). z .answer) e; column = ap (λ (z : LuLeft). z .column) e; order = λ w. ap (λ (z : LuLeft). z .order) e; factors = λ w. ap (λ (z : LuLeft). z .factors) e }
+
+  -- an entry that fills one buffer: the same number, and where it is 0 the same real parts
+  filled-same : (k : ℕ) (m m′ : List R) (x x′ : List Float) → (k ≡ 6 → ⊥) → map (A .re) m ≡ map (A .re) m′
+      → SameSolve (L .width) (cond (eqb k 0) (solveAnswered (value tt) (encode L m)) (solveAnswered (refused k) x)) (cond (eqb k 0) (solveAnswered (value tt) (encode L m′)) (solveAnswered (refused k) x′))
+  filled-same k m m′ x x′ h e = go (eqb k 0)
+    where
+      go : (t : Bool) → SameSolve (L .width) (cond t (solveAnswered (value tt) (encode L m)) (solveAnswered (refused k) x)) (cond t (solveAnswered (value tt) (encode L m′)) (solveAnswered (refused k) x′))
+      go true = record { answer = refl; result = λ w. encode-reals m ∙ e ∙ sym (encode-reals m′) }
+      go false = record { answer = refl; result = λ w. absurd (h w) }
+
+  never-six : (s t u : Bool) → _≡_ {A = ℕ} (cond s 1 (cond t (cond u 0 7) 2)) 6 → ⊥
+  never-six true t u e = omega arith
+  never-six false true true e = omega arith
+  never-six false true false e = omega arith
+  never-six false false u e = omega arith
+
+  -- solve
+  pub solve-same : (f f′ : List Float) (p : List ℕ) (b b′ x x′ : List Float) → length f ≡ length f′ → realParts (L .width) f ≡ realParts (L .width) f′
+      → length b ≡ length b′ → realParts (L .width) b ≡ realParts (L .width) b′ → length x ≡ length x′
+      → SameSolve (L .width) (solveLeft A L n f p b x) (solveLeft A L n f′ p b′ x′)
+  unfolding solveLeft
+  solve-same f f′ p b b′ x x′ hf ef hb eb hx =
+      rw (hf, hb, hx)
+      (filled-same (solveRefusal (L .width) n (length f′) p (length b′) (length x′)) _ _ x x′ (never-six (ltb 32 n) (eqb (length f′) (n * n * L .width) && (eqb (length p) n && (eqb (length b′) (n * L .width) && eqb (length x′) (n * L .width)))) (isOrder n p))
+      (solve-map A reals (A .re) K n (decode L f) p (decode L b)
+      ∙ (λ i. solveOf reals n (same-reals f f′ ef i) p (same-reals b b′ eb i))
+      ∙ sym (solve-map A reals (A .re) K n (decode L f′) p (decode L b′))))
+
+  -- inverse
+  pub inverse-same : (f f′ : List Float) (p : List ℕ) (x x′ : List Float) → length f ≡ length f′ → realParts (L .width) f ≡ realParts (L .width) f′ → length x ≡ length x′
+      → SameSolve (L .width) (inverseLeft A L n f p x) (inverseLeft A L n f′ p x′)
+  unfolding inverseLeft
+  inverse-same f f′ p x x′ hf ef hx =
+      rw (hf, hx)
+      (filled-same (inverseRefusal (L .width) n (length f′) p (length x′)) _ _ x x′ (never-six (ltb 32 n) (eqb (length f′) (n * n * L .width) && (eqb (length p) n && eqb (length x′) (n * n * L .width))) (isOrder n p))
+      (inverse-map A reals (A .re) K n (decode L f) p ∙ ap (λ (m : List Float). inverseOf reals n m p) (same-reals f f′ ef) ∙ sym (inverse-map A reals (A .re) K n (decode L f′) p)))
+
+  -- determinant
+  pub determinant-same : (f f′ : List Float) (p : List ℕ) (swaps : ℕ) → length f ≡ length f′ → realParts (L .width) f ≡ realParts (L .width) f′
+      → mapOutcome (A .re) (determinantLeft A L n f p swaps) ≡ mapOutcome (A .re) (determinantLeft A L n f′ p swaps)
+  unfolding determinantLeft
+  determinant-same f f′ p swaps hf ef =
+      rw hf (go (determinantRefusal (L .width) n (length f′) p swaps) (eqb (determinantRefusal (L .width) n (length f′) p swaps) 0)
+      (determinant-map A reals (A .re) K n (decode L f) swaps ∙ ap (λ (m : List Float). determinantOf reals n m swaps) (same-reals f f′ ef) ∙ sym (determinant-map A reals (A .re) K n (decode L f′) swaps)))
+    where
+      go : (k : ℕ) (t : Bool) {x y : R} → A .re x ≡ A .re y → mapOutcome (A .re) (cond t (value x) (refused k)) ≡ mapOutcome (A .re) (cond t (value y) (refused k))
+      go k true e = ap (λ (z : Float). value z) e
+      go k false e = refl

@@ -1,0 +1,65 @@
+-- The inner loops with what they do not change taken out: the multiplier of a row, and x[i] while its row is eliminated. Assumes nothing.
+use Prim.Native.Nat.{ℕ, _+_, _-_, _*_, _≤_, _<_}
+use mathlib.Core.Path.{_≡_, refl, ap, sym, _∙_}
+use mathlib.Core.List.{List}
+use native.Mathlib.Nat.{mul-le-mul-right}
+use native.Mathlib.Decide.{decLt}
+use native.Mathlib.Omega.{arith}
+use lib.ListN.{length, getD, set}
+use lib.Seq.{getD-set-same, getD-set-other, set-set, set-getD}
+use Rattle.algebra.specs.Algebra.{Algebra, zeroOf}
+use Rattle.algebra.specs.Loop.{upto}
+use Rattle.algebra.proofs.Loop.{upto-carry}
+use Rattle.matrices.specs.Matrix.{cell, store}
+use Rattle.matrices.specs.Lu.{subtract}
+use Rattle.matrices.specs.Solve.{element, assign, less, eliminate, forwardRow, divide, backRow}
+
+module _ {R : Type 0} (A : Algebra R) (n : ℕ) where
+  -- the code of one subtraction, with the multiplier x in hand
+  pub subtract-by : (i j k : ℕ) (x : R) (a : List R) → cell A n a j i ≡ x
+      → set a (j * n + k) (A .sub (getD a (j * n + k) (zeroOf A)) (A .mul x (getD a (i * n + k) (zeroOf A)))) ≡ subtract A n i j k a
+  unfolding subtract store cell
+  subtract-by i j k x a e = ap (λ (y : R). set a (j * n + k) (A .sub (getD a (j * n + k) (zeroOf A)) (A .mul y (getD a (i * n + k) (zeroOf A))))) (sym e)
+
+  -- a subtraction leaves the multiplier as it is
+  pub multiplier-stays : (i j k : ℕ) (a : List R) → i < k → cell A n (subtract A n i j k a) j i ≡ cell A n a j i
+  unfolding subtract store cell
+  multiplier-stays i j k a h = getD-set-other a (j * n + k) (j * n + i) _ (zeroOf A) (λ e. omega arith)
+
+  -- the multiplier itself is what was stored
+  pub multiplier-is : (a : List R) (r c : ℕ) (v : R) → r * n + c < length a → cell A n (store A n a r c v) r c ≡ v
+  unfolding store cell
+  multiplier-is a r c v h = getD-set-same a (r * n + c) v (zeroOf A) h
+
+-- two elements of a vector stand apart
+stride-apart : (s b i k : ℕ) → 0 < s → (k ≡ i → ⊥) → k * s + b ≡ i * s + b → ⊥
+stride-apart s b i k z ne e = go (decLt k i)
+  where
+    go : Dec (k < i) → ⊥
+    go (yes l) = omega (arith, mul-le-mul-right s l)
+    go (no l) = let g : i < k = omega arith in omega (arith, mul-le-mul-right s g)
+
+module _ {R : Type 0} (A : Algebra R) (n : ℕ) (a : List R) (stride base : ℕ) (some : 0 < stride) (x : List R) (i : ℕ) (inside : i * stride + base < length x) where
+  eliminated : (lo hi : ℕ) → ((k : ℕ) → lo ≤ k → k < hi → k ≡ i → ⊥) → (v : R)
+      → upto lo hi (eliminate A n a stride base i) (assign A n a stride base x i v) ≡ assign A n a stride base x i (upto lo hi (less A n a stride base i x) v)
+  unfolding eliminate less
+  eliminated lo hi ne v =
+      sym (upto-carry (assign A n a stride base x i) (less A n a stride base i x) (eliminate A n a stride base i) lo hi
+      (λ k u l h.
+      let same = getD-set-same x (i * stride + base) u (zeroOf A) inside in
+      let other = getD-set-other x (i * stride + base) (k * stride + base) u (zeroOf A) (λ e. stride-apart stride base i k some (ne k l h) e) in
+      sym (set-set x (i * stride + base) u _ ∙ (λ t. set x (i * stride + base) (A .sub (same t) (A .mul (cell A n a i k) (other t))))))
+      v)
+
+  pub forwardRow-by : (start : ℕ → R) → forwardRow A n a stride base start i x ≡ assign A n a stride base x i (upto 0 i (less A n a stride base i x) (start i))
+  unfolding forwardRow
+  forwardRow-by start = eliminated 0 i (λ k l h e. omega arith) (start i)
+
+  pub backRow-by : backRow A n a stride base i x ≡ assign A n a stride base x i (A .div (upto (i + 1) n (less A n a stride base i x) (element A n a stride base x i)) (cell A n a i i))
+  unfolding backRow divide
+  backRow-by =
+      let v = upto (i + 1) n (less A n a stride base i x) (element A n a stride base x i) in
+      ap (divide A n a stride base i)
+      (ap (upto (i + 1) n (eliminate A n a stride base i)) (sym (set-getD x (i * stride + base) (zeroOf A))) ∙ eliminated (i + 1) n (λ k l h e. omega arith) (element A n a stride base x i))
+      ∙ set-set x (i * stride + base) v _
+      ∙ ap (λ (u : R). set x (i * stride + base) (A .div u (cell A n a i i))) (getD-set-same x (i * stride + base) v (zeroOf A) inside)

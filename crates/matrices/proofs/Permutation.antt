@@ -1,0 +1,227 @@
+-- Permutations of 0..n-1: what exchanges keep, that every number below n occurs, and that the test is true of permutations exactly. Assumes nothing.
+use Prim.Native.Nat.{ℕ, zero, suc, _+_, _≤_, _<_}
+use mathlib.Core.Path.{_≡_, refl, ap, sym, subst, _∙_}
+use mathlib.Core.Logic.{_⊎_, inl, inr}
+use mathlib.Core.Bool.{Bool, true, false, not, cond, _&&_}
+use mathlib.Core.List.{List, [], _∷_}
+use native.Mathlib.Omega.{arith}
+use native.Mathlib.Decide.{decLt, ℕ-discrete}
+use lib.ListN.{length, getD, set, length-set}
+use lib.Dec.{ltb, eqb}
+use borrow.Author.Tests.{lt-ltb, ltb-true, eqb-true, eqb-false, ne-eqb}
+use Rattle.algebra.specs.Flat.{tabulate}
+use Rattle.algebra.proofs.Flat.{tabulate-length}
+use Rattle.matrices.specs.Matrix.{exchange}
+use Rattle.matrices.specs.Lu.{numbers}
+use Rattle.matrices.specs.Order.{All, Distinct, Order, absent, isOrder}
+
+-- ---- exchange of the first element with a later one: `getD l q 0 ∷ set l q x` for `x ∷ l`
+
+abbrev pub fore : ℕ → List ℕ → ℕ → List ℕ
+fore x l q = getD l q 0 ∷ set l q x
+
+pub fore-all : (P : ℕ → Type 0) (x : ℕ) (l : List ℕ) (q : ℕ) → q < length l → All P (x ∷ l) → All P (fore x l q)
+fore-all P x [] q h a = absurd (omega arith)
+fore-all P x (y ∷ l) zero h a = (a .1 .0, (a .0, a .1 .1))
+fore-all P x (y ∷ l) (suc q) h a =
+    let r = fore-all P x l q (omega arith) (a .0, a .1 .1) in
+    (r .0, (a .1 .0, r .1))
+
+-- of All P, at one place
+pub all-at : (P : ℕ → Type 0) (l : List ℕ) (q : ℕ) → q < length l → All P l → P (getD l q 0)
+all-at P [] q h a = absurd (omega arith)
+all-at P (y ∷ l) zero h a = a .0
+all-at P (y ∷ l) (suc q) h a = all-at P l q (omega arith) (a .1)
+
+all-map : (P Q : ℕ → Type 0) → ((v : ℕ) → P v → Q v) → (l : List ℕ) → All P l → All Q l
+all-map P Q f [] a = tt
+all-map P Q f (y ∷ l) a = (f y (a .0), all-map P Q f l (a .1))
+
+fore-distinct : (x : ℕ) (l : List ℕ) (q : ℕ) → q < length l → Distinct (x ∷ l) → Distinct (fore x l q)
+fore-distinct x [] q h a = absurd (omega arith)
+fore-distinct x (y ∷ l) zero h a = (((λ e. a .0 .0 (sym e)), a .1 .0), (a .0 .1, a .1 .1))
+fore-distinct x (y ∷ l) (suc q) h a =
+    let w = getD l q 0 in
+    let r = fore-distinct x l q (omega arith) (a .0 .1, a .1 .1) in
+    let away = fore-all (λ v. y ≡ v → ⊥) x l q (omega arith) ((λ e. a .0 .0 (sym e)), a .1 .0) in
+    (((λ e. away .0 (sym e)), r .0), (away .1, r .1))
+
+-- ---- exchange of two places
+
+exchange-all : (P : ℕ → Type 0) (p q : ℕ) (l : List ℕ) → p < q → q < length l → All P l → All P (exchange 0 p q l)
+unfolding exchange
+exchange-all P p q [] h k a = absurd (omega arith)
+exchange-all P p zero (x ∷ l) h k a = absurd (omega arith)
+exchange-all P zero (suc q) (x ∷ l) h k a = fore-all P x l q (omega arith) a
+exchange-all P (suc p) (suc q) (x ∷ l) h k a = (a .0, exchange-all P p q l (omega arith) (omega arith) (a .1))
+
+exchange-distinct : (p q : ℕ) (l : List ℕ) → p < q → q < length l → Distinct l → Distinct (exchange 0 p q l)
+unfolding exchange
+exchange-distinct p q [] h k a = absurd (omega arith)
+exchange-distinct p zero (x ∷ l) h k a = absurd (omega arith)
+exchange-distinct zero (suc q) (x ∷ l) h k a = fore-distinct x l q (omega arith) a
+exchange-distinct (suc p) (suc q) (x ∷ l) h k a =
+    (exchange-all (λ y. x ≡ y → ⊥) p q l (omega arith) (omega arith) (a .0), exchange-distinct p q l (omega arith) (omega arith) (a .1))
+
+pub exchange-order : (n p q : ℕ) (o : List ℕ) → p < q → q < n → Order n o → Order n (exchange 0 p q o)
+unfolding exchange
+exchange-order n p q o h k r =
+    let z = r .size in
+    record {
+      size = length-set (set o p (getD o q 0)) q (getD o p 0) ∙ length-set o p (getD o q 0) ∙ r .size;
+      below = exchange-all (λ v. v < n) p q o h (omega arith) (r .below);
+      apart = exchange-distinct p q o h (omega arith) (r .apart);
+    }
+
+-- ---- 0, 1, .., n - 1
+
+numbers-above : (d k x : ℕ) → x < k → All (λ y. x ≡ y → ⊥) (tabulate (λ j. j) d k)
+unfolding tabulate
+numbers-above zero k x h = tt
+numbers-above (suc d) k x h = ((λ e. omega arith), numbers-above d (suc k) x (omega arith))
+
+numbers-below : (d k n : ℕ) → k + d ≤ n → All (λ v. v < n) (tabulate (λ j. j) d k)
+unfolding tabulate
+numbers-below zero k n h = tt
+numbers-below (suc d) k n h = (omega arith, numbers-below d (suc k) n (omega arith))
+
+numbers-distinct : (d k : ℕ) → Distinct (tabulate (λ j. j) d k)
+unfolding tabulate
+numbers-distinct zero k = tt
+numbers-distinct (suc d) k = (numbers-above d (suc k) k (omega arith), numbers-distinct d (suc k))
+
+pub numbers-order : (n : ℕ) → Order n (numbers n)
+numbers-order n = record { size = tabulate-length (λ j. j) n 0; below = numbers-below n 0 n (omega arith); apart = numbers-distinct n 0 }
+
+-- ---- every number below n occurs
+
+-- the list without v
+without : ℕ → List ℕ → List ℕ
+without v [] = []
+without v (x ∷ l) = cond (eqb v x) (without v l) (x ∷ without v l)
+
+without-all : (P : ℕ → Type 0) (v : ℕ) (l : List ℕ) → All P l → All P (without v l)
+unfolding without
+without-all P v [] a = tt
+without-all P v (x ∷ l) a = go (eqb v x) (without-all P v l (a .1))
+  where
+    go : (t : Bool) → All P (without v l) → All P (cond t (without v l) (x ∷ without v l))
+    go true r = r
+    go false r = (a .0, r)
+
+without-distinct : (v : ℕ) (l : List ℕ) → Distinct l → Distinct (without v l)
+unfolding without
+without-distinct v [] a = tt
+without-distinct v (x ∷ l) a = go (eqb v x) (without-distinct v l (a .1))
+  where
+    go : (t : Bool) → Distinct (without v l) → Distinct (cond t (without v l) (x ∷ without v l))
+    go true r = r
+    go false r = (without-all (λ y. x ≡ y → ⊥) v l (a .0), r)
+
+-- what is none of the list's leaves it as it is
+without-none : (v : ℕ) (l : List ℕ) → All (λ y. v ≡ y → ⊥) l → without v l ≡ l
+unfolding without
+without-none v [] a = refl
+without-none v (x ∷ l) a = rw (ne-eqb v x (a .0)) (ap (λ (r : List ℕ). x ∷ r) (without-none v l (a .1)))
+
+-- of different numbers at most one is v
+without-length : (v : ℕ) (l : List ℕ) → Distinct l → length l ≤ suc (length (without v l))
+unfolding without
+without-length v [] a = omega arith
+without-length v (x ∷ l) a = go (eqb v x) refl (without-length v l (a .1))
+  where
+    go : (t : Bool) → eqb v x ≡ t → length l ≤ suc (length (without v l)) → suc (length l) ≤ suc (length (cond t (without v l) (x ∷ without v l)))
+    go true e r = rw (without-none v l (rw (eqb-true v x e) (a .0))) (omega arith)
+    go false e r = omega arith
+
+-- none of what is left is v
+without-below : (n : ℕ) (l : List ℕ) → All (λ y. y < suc n) l → All (λ y. y < n) (without n l)
+unfolding without
+without-below n [] a = tt
+without-below n (x ∷ l) a = go (eqb n x) refl (without-below n l (a .1))
+  where
+    go : (t : Bool) → eqb n x ≡ t → All (λ y. y < n) (without n l) → All (λ y. y < n) (cond t (without n l) (x ∷ without n l))
+    go true e r = r
+    go false e r = let d = eqb-false n x e in let h = a .0 in (omega arith, r)
+
+-- there are no more than n different numbers below n
+too-many : (n : ℕ) (l : List ℕ) → All (λ y. y < n) l → Distinct l → length l ≤ n
+too-many zero [] a d = omega arith
+too-many zero (x ∷ l) a d = absurd (let h = a .0 in omega arith)
+too-many (suc n) l a d =
+    let r = too-many n (without n l) (without-below n l a) (without-distinct n l d) in
+    let s = without-length n l d in
+    omega arith
+
+-- where v stands in the list, unless it is none of it
+find : (v : ℕ) (l : List ℕ) → ((k : ℕ) × ((k < length l) × (getD l k 0 ≡ v))) ⊎ All (λ y. v ≡ y → ⊥) l
+find v [] = inr tt
+find v (x ∷ l) = go (ℕ-discrete v x) (find v l)
+  where
+    go : Dec (v ≡ x) → ((k : ℕ) × ((k < length l) × (getD l k 0 ≡ v))) ⊎ All (λ y. v ≡ y → ⊥) l → ((k : ℕ) × ((k < suc (length l)) × (getD (x ∷ l) k 0 ≡ v))) ⊎ All (λ y. v ≡ y → ⊥) (x ∷ l)
+    go (yes e) r = inl (0, (omega arith, sym e))
+    go (no e) (inl (k, (b, f))) = inl (suc k, (omega arith, f))
+    go (no e) (inr a) = inr (e, a)
+
+-- each number below n is an entry of a permutation of 0..n-1
+pub order-occurs : (n : ℕ) (p : List ℕ) → Order n p → (v : ℕ) → v < n → (k : ℕ) × ((k < n) × (getD p k 0 ≡ v))
+order-occurs n p o v h = go (find v p)
+  where
+    go : ((k : ℕ) × ((k < length p) × (getD p k 0 ≡ v))) ⊎ All (λ y. v ≡ y → ⊥) p → (k : ℕ) × ((k < n) × (getD p k 0 ≡ v))
+    go (inl (k, (b, e))) = let z = o .size in (k, (omega arith, e))
+    go (inr a) = absurd (let r = too-many n (v ∷ p) (h, o .below) (a, o .apart) in let z = o .size in omega arith)
+
+-- an entry of a permutation is below n
+pub order-below : (n : ℕ) (p : List ℕ) → Order n p → (k : ℕ) → k < n → getD p k 0 < n
+order-below n p o k h = all-at (λ v. v < n) p k (let z = o .size in omega arith) (o .below)
+
+-- ---- the test is true of permutations exactly
+
+pub both : (a b : Bool) → (a && b) ≡ true → (a ≡ true) × (b ≡ true)
+both true b e = (refl, e)
+both false b e = absurd (let z : _≡_ {A = Bool} false true = e in false-true z)
+  where
+    family : Bool → Type 0
+    family true = ⊥
+    family false = Unit {0}
+
+    false-true : false ≡ true → ⊥
+    false-true z = subst family z tt
+
+not-not-true : (a : Bool) → not a ≡ true → a ≡ false
+not-not-true true e = sym e
+not-not-true false e = refl
+
+absent-all : (x : ℕ) (l : List ℕ) → absent x l ≡ true → All (λ y. x ≡ y → ⊥) l
+unfolding absent
+absent-all x [] e = tt
+absent-all x (y ∷ l) e = let b = both (not (eqb x y)) (absent x l) e in (eqb-false x y (not-not-true (eqb x y) (b .0)), absent-all x l (b .1))
+
+all-absent : (x : ℕ) (l : List ℕ) → All (λ y. x ≡ y → ⊥) l → absent x l ≡ true
+unfolding absent
+all-absent x [] a = refl
+all-absent x (y ∷ l) a = rw (ne-eqb x y (a .0), all-absent x l (a .1)) refl
+
+-- a list of n numbers that passes is a permutation of 0..n-1
+pub isOrder-order : (n : ℕ) (p : List ℕ) → length p ≡ n → isOrder n p ≡ true → Order n p
+unfolding isOrder
+isOrder-order n p h e = record { size = h; below = below p e; apart = apart p e }
+  where
+    below : (l : List ℕ) → isOrder n l ≡ true → All (λ v. v < n) l
+    below [] e = tt
+    below (x ∷ l) e = let b = both (ltb x n) (absent x l && isOrder n l) e in (ltb-true x n (b .0), below l (both (absent x l) (isOrder n l) (b .1) .1))
+
+    apart : (l : List ℕ) → isOrder n l ≡ true → Distinct l
+    apart [] e = tt
+    apart (x ∷ l) e =
+        let b = both (absent x l) (isOrder n l) (both (ltb x n) (absent x l && isOrder n l) e .1) in
+        (absent-all x l (b .0), apart l (b .1))
+
+-- a permutation of 0..n-1 passes
+pub order-isOrder : (n : ℕ) (p : List ℕ) → Order n p → isOrder n p ≡ true
+unfolding isOrder
+order-isOrder n p o = go p (o .below) (o .apart)
+  where
+    go : (l : List ℕ) → All (λ v. v < n) l → Distinct l → isOrder n l ≡ true
+    go [] b d = refl
+    go (x ∷ l) b d = rw (lt-ltb x n (b .0), all-absent x l (d .0), go l (b .1) (d .1)) refl

@@ -1,0 +1,75 @@
+-- Places of a square matrix in flat floats: all that is not linear in the indices of the code. Assumes nothing.
+use Prim.Native.Nat.{ℕ, zero, suc, _+_, _-_, _*_, _/_, _≤_, _<_}
+use mathlib.Core.Path.{_≡_, refl, ap, sym, _∙_}
+use mathlib.Core.List.{List, [], _∷_}
+use native.Mathlib.Nat.{mul-le-mul-right, mul-le-mul, mul-assoc, add-mul, mul-div-cancel}
+use native.Mathlib.Omega.{arith}
+use lib.ListN.{length, getD}
+use lib.Ieee.{Float}
+use Rattle.real.specs.Operations as float
+use Rattle.algebra.specs.Algebra.{reals}
+use Rattle.algebra.specs.Flat.{realParts}
+use Rattle.algebra.proofs.Flat.{tabulate-at}
+use Rattle.matrices.specs.Matrix.{Square, cell}
+
+-- what stands at a place that is there does not depend on what stands for the others
+pub getD-any : {B : Type 0} (l : List B) (j : ℕ) (d e : B) → j < length l → getD l j d ≡ getD l j e
+getD-any [] j d e h = absurd (omega arith)
+getD-any (x ∷ l) zero d e h = refl
+getD-any (x ∷ l) (suc j) d e h = getD-any l j d e (omega arith)
+
+-- row r and column c are one of the n * n places
+pub place : (n r c : ℕ) → r < n → c < n → r * n + c < n * n
+place n r c hr hc = omega (arith, mul-le-mul-right n hr)
+
+-- a row is n of them
+pub row-place : (n r : ℕ) → r < n → r * n + n ≤ n * n
+row-place n r h = omega (arith, mul-le-mul-right n h)
+
+-- record p of the n * n lies whole in the floats
+pub flat-place : (w m p : ℕ) → p < m → p * w + w ≤ m * w
+flat-place w m p h = omega (arith, mul-le-mul-right w h)
+
+-- the record at row r and column c, by the floats of a row
+pub flat-row : (w n r c : ℕ) → (r * n + c) * w ≡ r * (n * w) + c * w
+flat-row w n r c = add-mul (r * n) c w ∙ ap (λ (k : ℕ). k + c * w) (mul-assoc r n w)
+
+-- row r lies whole in the floats
+pub row-inside : (w n : ℕ) (l : List Float) (r : ℕ) → Square w n l → r < n → r * (n * w) + n * w ≤ length l
+row-inside w n l r s h =
+    let m = mul-le-mul-right (n * w) h in
+    let e = mul-assoc n n w in
+    let f = s .full in
+    omega arith
+
+-- no product of the code is large
+pub record Few (w n : ℕ) : Type 0 where
+  pub square : n * n ≤ 1024
+  pub row : n * w ≤ 256
+  pub all : n * n * w ≤ 8192
+
+pub few : (w n : ℕ) → n ≤ 32 → w ≤ 8 → Few w n
+few w n h k = record { square = mul-le-mul h h; row = mul-le-mul h k; all = mul-le-mul (mul-le-mul h h) k }
+
+-- nor is the place of a record in a walk down a column
+pub walk : (w n k i : ℕ) → n ≤ 32 → w ≤ 8 → k ≤ n → i ≤ n → (k * (n * w) ≤ 8192) × ((i * w ≤ 256) × (n * w ≤ 256))
+walk w n k i h v hk hi =
+    let a : k ≤ 32 = omega arith in
+    let b : i ≤ 32 = omega arith in
+    (mul-le-mul a (mul-le-mul h v), (mul-le-mul b v, mul-le-mul h v))
+
+-- the real part at row r and column c, in the floats
+pub real-cell : (w n : ℕ) (l : List Float) (r c : ℕ) → Square w n l → r < n → c < n
+    → (r * (n * w) + c * w < length l) × (cell reals n (realParts w l) r c ≡ getD l (r * (n * w) + c * w) float.zero)
+unfolding cell realParts
+real-cell w n l r c s hr hc =
+    let e = flat-row w n r c in
+    let f = s .full in
+    let z = s .some in
+    let p = place n r c hr hc in
+    let t = flat-place w (n * n) (r * n + c) p in
+    let k : length l / w ≡ n * n = ap (λ (m : ℕ). m / w) (s .full) ∙ mul-div-cancel (n * n) (s .some) in (
+      omega arith,
+      tabulate-at (λ q. getD l (q * w) float.zero) (length l / w) 0 (r * n + c) float.zero (omega arith)
+          ∙ ap (λ (q : ℕ). getD l (q * w) float.zero) (omega arith) ∙ ap (λ (q : ℕ). getD l q float.zero) e,
+    )

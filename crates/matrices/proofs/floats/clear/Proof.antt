@@ -1,0 +1,59 @@
+use Rattle.matrices.proofs.Fill.{Filled, filled-more, filled-all}
+use mathlib.Core.Path.{_≡_, refl, sym, ap, _∙_}
+use Prim.Native.Nat.{ℕ, _-_, _+_}
+use denote.Ref.{now}
+use lib.ListN.{length, getD, replicate, length-set, length-replicate, getD-replicate}
+use lib.Ieee.{nan}
+use Rattle.real.specs.Operations.{zero}
+use native.Mathlib.Omega.{arith}
+use Rattle.matrices.proofs.floats.clear.Statement.{statement}
+use Rattle.matrices.proofs.floats.clear.Tie as tie
+
+abbrev Inv-loop : tie.InvT-loop
+Inv-loop to₀ i₀ to i = (length to ≡ length to₀) × Filled nan (λ k. zero) to i
+
+abbrev μ-loop : tie.MeasureT-loop
+μ-loop to₀ i₀ to i = length to₀ - i
+
+loop-holds : tie.Need-loop-holds Inv-loop μ-loop
+loop-holds c = (refl, λ k h. absurd (omega arith))
+
+mul-to : tie.Need-mul-to Inv-loop μ-loop
+mul-to c = omega arith
+
+slice-write-to : tie.Need-slice-write-to Inv-loop μ-loop
+slice-write-to c = omega arith
+
+add-i : tie.Need-add-i Inv-loop μ-loop
+add-i c = omega arith
+
+loop-less : tie.Need-loop-less Inv-loop μ-loop
+loop-less c = omega arith
+
+loop-again : tie.Need-loop-again Inv-loop μ-loop
+loop-again c =
+    let at = c .before in
+    (simp length-set (at .loop .inv .0), filled-more nan (λ k. zero) (at .loop .to) (at .loop .i) (c .loop-test .taken) (at .loop .inv .1))
+
+same-length : tie.Need-same-length Inv-loop μ-loop
+same-length c = omega arith
+
+returns : tie.Need-returns Inv-loop μ-loop
+returns c =
+    let at = c .before in
+    filled-all nan (λ k. zero) (at .loop .to) (replicate (length (now (at .before .args .to))) zero) (at .loop .i) (c .loop-test .left) (at .loop .inv .0 ∙ sym (length-replicate (length (now (at .before .args .to))) zero)) (at .loop .inv .1) (λ k h. getD-replicate (length (now (at .before .args .to))) k zero nan (omega arith))
+
+pub clear-spec : {M : Type 1} → statement M
+clear-spec =
+    tie.close
+    (tie.spec
+    Inv-loop
+    μ-loop
+    loop-holds
+    mul-to
+    slice-write-to
+    add-i
+    loop-less
+    loop-again
+    same-length
+    returns)

@@ -1,0 +1,66 @@
+use Rattle.matrices.proofs.Fill.{Filled, filled-more, filled-all}
+use mathlib.Core.Path.{_≡_, refl, sym, ap, _∙_}
+use Prim.Native.Nat.{ℕ, _-_, _+_}
+use denote.Ref.{now}
+use lib.ListN.{length, getD, length-set}
+use lib.Ieee.{nan}
+use native.Mathlib.Omega.{arith}
+use Rattle.matrices.proofs.floats.copy.Statement.{statement}
+use Rattle.matrices.proofs.floats.copy.Tie as tie
+
+abbrev Inv-loop : tie.InvT-loop
+Inv-loop from to₀ i₀ to i = (length to ≡ length to₀) × Filled nan (λ k. getD from k nan) to i
+
+abbrev μ-loop : tie.MeasureT-loop
+μ-loop from to₀ i₀ to i = length to₀ - i
+
+loop-holds : tie.Need-loop-holds Inv-loop μ-loop
+loop-holds c = (refl, λ k h. absurd (omega arith))
+
+mul-to : tie.Need-mul-to Inv-loop μ-loop
+mul-to c = omega arith
+
+shared-slice-read-to : tie.Need-shared-slice-read-to Inv-loop μ-loop
+shared-slice-read-to c = omega arith
+
+mul-to-2 : tie.Need-mul-to-2 Inv-loop μ-loop
+mul-to-2 c = omega arith
+
+slice-write-to : tie.Need-slice-write-to Inv-loop μ-loop
+slice-write-to c = omega arith
+
+add-i : tie.Need-add-i Inv-loop μ-loop
+add-i c = omega arith
+
+loop-less : tie.Need-loop-less Inv-loop μ-loop
+loop-less c = omega arith
+
+loop-again : tie.Need-loop-again Inv-loop μ-loop
+loop-again c =
+    let at = c .before .before in
+    (simp length-set (at .loop .inv .0), filled-more nan (λ k. getD (now (at .before .args .from)) k nan) (at .loop .to) (at .loop .i) (c .before .loop-test .taken) (at .loop .inv .1))
+
+same-length : tie.Need-same-length Inv-loop μ-loop
+same-length c = omega arith
+
+returns : tie.Need-returns Inv-loop μ-loop
+returns c =
+    let at = c .before in
+    filled-all nan (λ k. getD (now (at .before .args .from)) k nan) (at .loop .to) (now (at .before .args .from)) (at .loop .i) (c .loop-test .left) (omega arith) (at .loop .inv .1) (λ k h. refl)
+
+pub copy-spec : {M : Type 1} → statement M
+copy-spec =
+    tie.close
+    (tie.spec
+    Inv-loop
+    μ-loop
+    loop-holds
+    mul-to
+    shared-slice-read-to
+    mul-to-2
+    slice-write-to
+    add-i
+    loop-less
+    loop-again
+    same-length
+    returns)

@@ -1,0 +1,59 @@
+use Rattle.matrices.proofs.Fill.{Filled, filled-more, filled-all}
+use mathlib.Core.Path.{_≡_, refl, sym, ap, _∙_}
+use Prim.Native.Nat.{ℕ, _-_, _+_}
+use denote.Ref.{now}
+use lib.ListN.{length, getD, length-set}
+use Rattle.algebra.proofs.Flat.{tabulate-length, tabulate-at}
+use Rattle.matrices.specs.Lu.{numbers}
+use native.Mathlib.Omega.{arith}
+use Rattle.matrices.proofs.order.number.Statement.{statement}
+use Rattle.matrices.proofs.order.number.Tie as tie
+
+abbrev Inv-loop : tie.InvT-loop
+Inv-loop order₀ i₀ order i = (length order ≡ length order₀) × Filled 0 (λ k. k) order i
+
+abbrev μ-loop : tie.MeasureT-loop
+μ-loop order₀ i₀ order i = length order₀ - i
+
+loop-holds : tie.Need-loop-holds Inv-loop μ-loop
+loop-holds c = (refl, λ k h. absurd (omega arith))
+
+mul-order : tie.Need-mul-order Inv-loop μ-loop
+mul-order c = omega arith
+
+slice-write-order : tie.Need-slice-write-order Inv-loop μ-loop
+slice-write-order c = omega arith
+
+add-i : tie.Need-add-i Inv-loop μ-loop
+add-i c = omega arith
+
+loop-less : tie.Need-loop-less Inv-loop μ-loop
+loop-less c = omega arith
+
+loop-again : tie.Need-loop-again Inv-loop μ-loop
+loop-again c =
+    let at = c .before in
+    (simp length-set (at .loop .inv .0), filled-more 0 (λ k. k) (at .loop .order) (at .loop .i) (c .loop-test .taken) (at .loop .inv .1))
+
+same-length : tie.Need-same-length Inv-loop μ-loop
+same-length c = omega arith
+
+returns : tie.Need-returns Inv-loop μ-loop
+returns c =
+    let at = c .before in
+    filled-all 0 (λ k. k) (at .loop .order) (numbers (length (now (at .before .args .order)))) (at .loop .i) (c .loop-test .left) (at .loop .inv .0 ∙ sym (tabulate-length (λ k. k) (length (now (at .before .args .order))) 0)) (at .loop .inv .1) (λ k h. tabulate-at (λ j. j) (length (now (at .before .args .order))) 0 k 0 (omega arith) ∙ omega arith)
+
+pub number-spec : {M : Type 1} → statement M
+number-spec =
+    tie.close
+    (tie.spec
+    Inv-loop
+    μ-loop
+    loop-holds
+    mul-order
+    slice-write-order
+    add-i
+    loop-less
+    loop-again
+    same-length
+    returns)

@@ -1,0 +1,20 @@
+use mathlib.Core.Path.{_≡_, refl, sym, ap, _∙_}
+use borrow.Author.Tests.{lt-ltb, le-ltb, eq-eqb, ne-eqb}
+use denote.Ref.{now}
+use mathlib.Core.Bool.{Bool, true, false, cond}
+use Prim.Native.Nat.{ℕ}
+use borrow.Author.Needs.{needs}
+use Rattle.matrices.proofs.refusal.not_an_order.Statement.{statement}
+use Rattle.matrices.proofs.refusal.not_an_order.Tie as tie
+
+is-order-requires : tie.Need-is-order-requires
+is-order-requires c κs = search needs
+
+returns : tie.Need-returns
+returns c = ap (λ (t : Bool). cond t 0 7) (sym (c .if1 .taken) ∙ c .before .is-order .ensures)
+
+returns-2 : tie.Need-returns-2
+returns-2 c = ap (λ (t : Bool). cond t 0 7) (sym (c .if1 .left) ∙ c .before .is-order .ensures)
+
+pub not-an-order-spec : {M : Type 1} → statement M
+not-an-order-spec = tie.close (tie.spec is-order-requires returns returns-2)

@@ -1,0 +1,28 @@
+use mathlib.Core.Path.{_≡_, refl, sym, ap, _∙_}
+use Prim.Native.Nat.{ℕ, _≤_, _-_, _+_}
+use denote.Ref.{now}
+use mathlib.Core.Bool.{Bool, true, false, cond}
+use lib.Ieee.{Float, lt}
+use Rattle.real.specs.Sign.{absOf}
+use Rattle.matrices.specs.Lu.{better}
+use Rattle.matrices.specs.declared.Pivot.{Pivot}
+use borrow.Author.Needs.{needs}
+use Rattle.matrices.proofs.rows.better_row.Statement.{statement}
+use Rattle.matrices.proofs.rows.better_row.Tie as tie
+
+-- what the code's test finds is what `better` takes
+better-by : (x : Float) (k : ℕ) (b : Pivot) (size : Float) (t : Bool) → size ≡ absOf x → lt (b .size) size ≡ t → cond t (record { size = size; row = k }) b ≡ better x k b
+unfolding better
+better-by x k b size t e h = rw (← e, h) refl
+
+abs-requires : tie.Need-abs-requires
+abs-requires c κs = search needs
+
+returns : tie.Need-returns
+returns c = better-by _ _ _ _ _ (c .before .before .abs .ensures) (c .if1 .taken)
+
+returns-2 : tie.Need-returns-2
+returns-2 c = better-by _ _ _ _ _ (c .before .before .abs .ensures) (c .if1 .left)
+
+pub better-row-spec : {M : Type 1} → statement M
+better-row-spec = tie.close (tie.spec abs-requires returns returns-2)

@@ -1,0 +1,89 @@
+use mathlib.Core.Path.{_≡_, refl, sym, ap, _∙_}
+use Prim.Native.Nat.{ℕ, _≤_, _<_, _+_, _*_}
+use denote.Ref.{now}
+use lib.Ieee.{Float}
+use lib.ListN.{length, length-set}
+use mathlib.Core.List.{List}
+use Rattle.real.specs.Operations.{zero}
+use Rattle.algebra.specs.Algebra.{reals}
+use Rattle.matrices.specs.Lu.{bring, going}
+use Rattle.matrices.specs.declared.Pivot.{Pivot}
+use Rattle.matrices.proofs.Places.{few, row-inside}
+use Rattle.matrices.proofs.Lu.{pivot-row, bring-none, bring-stays, bring-moves}
+use borrow.Author.Needs.{needs}
+use native.Mathlib.Omega.{arith}
+use Rattle.matrices.proofs.rows.bring_pivot.Statement.{statement}
+use Rattle.matrices.proofs.rows.bring_pivot.Tie as tie
+
+-- the pivot's row is one of those from i on
+row : (c : tie.After-find-pivot) → let s = c .before .before .before .before .args in (s .i ≤ c .find-pivot .result .row) × (c .find-pivot .result .row < s .n)
+row c = rw (c .find-pivot .ensures) (pivot-row reals _ _ _ (search needs))
+
+find-pivot-requires : tie.Need-find-pivot-requires
+find-pivot-requires c κs = search needs
+
+same-length : tie.Need-same-length
+same-length c = search needs
+
+returns : tie.Need-returns
+returns c =
+    let s = c .before .before .before .before .before .args in
+    (search needs, sym (bring-none zero (s .n * s .w) _ (s .i) (now (s .a)) (now (s .order)) (s .swaps) (c .if1 .taken)) ∙ ap (λ (b : Pivot). bring zero (s .n * s .w) b (s .i) (now (s .a)) (now (s .order)) (s .swaps)) (c .before .find-pivot .ensures))
+
+same-length-2 : tie.Need-same-length-2
+same-length-2 c = search needs
+
+returns-2 : tie.Need-returns-2
+returns-2 c =
+    let s = c .before .before .before .before .before .before .args in
+    (search needs, sym (bring-stays zero (s .n * s .w) _ (s .i) (now (s .a)) (now (s .order)) (s .swaps) (c .before .if1 .left) (c .if2 .taken)) ∙ ap (λ (b : Pivot). bring zero (s .n * s .w) b (s .i) (now (s .a)) (now (s .order)) (s .swaps)) (c .before .before .find-pivot .ensures))
+
+mul-exchange-rows : tie.Need-mul-exchange-rows
+mul-exchange-rows c = let s = c .before .before .before .before .before .before in omega (arith, few _ _ (s .pre .0 .small) (s .pre .0 .narrow))
+
+exchange-rows-requires : tie.Need-exchange-rows-requires
+exchange-rows-requires c κs =
+    let s = c .before .before .before .before .before .before .before in
+    let r = row (c .before .before .before) in
+    (row-inside (s .args .w) (s .args .n) (now (s .args .a)) (s .args .i) (s .pre .0) (s .pre .1 .1 .0), row-inside (s .args .w) (s .args .n) (now (s .args .a)) _ (s .pre .0) (r .1))
+
+exchange-requires : tie.Need-exchange-requires
+exchange-requires c κs =
+    let r = row (c .before .before .before .before .before .before .before) in
+    (omega arith, omega arith)
+
+add-t14 : tie.Need-add-t14
+add-t14 c = search needs
+
+same-length-3 : tie.Need-same-length-3
+same-length-3 c = search needs
+
+same-length-4 : tie.Need-same-length-4
+same-length-4 c = search needs
+
+returns-3 : tie.Need-returns-3
+returns-3 c =
+    let s = c .before .before .before .before .before .before .before .before .before .before .before .before .before .before .args in
+    let found = c .before .before .before .before .before .before .before .before .before .before .find-pivot in
+    let moved = bring-moves zero (s .n * s .w) (found .result) (s .i) (now (s .a)) (now (s .order)) (s .swaps) (c .before .before .before .before .before .before .before .before .before .if1 .left) (c .before .before .before .before .before .before .before .before .if2 .left) in (
+      search needs,
+      (λ k. going (c .before .before .before .before .before .before .exchange-rows .ensures k) (c .before .before .exchange .ensures k) (s .swaps + 1))
+          ∙ sym moved ∙ ap (λ (b : Pivot). bring zero (s .n * s .w) b (s .i) (now (s .a)) (now (s .order)) (s .swaps)) (found .ensures),
+    )
+
+pub bring-pivot-spec : {M : Type 1} → statement M
+bring-pivot-spec =
+    tie.close
+    (tie.spec
+    find-pivot-requires
+    same-length
+    returns
+    same-length-2
+    returns-2
+    mul-exchange-rows
+    exchange-rows-requires
+    exchange-requires
+    add-t14
+    same-length-3
+    same-length-4
+    returns-3)

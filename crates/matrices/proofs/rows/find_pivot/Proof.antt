@@ -1,0 +1,117 @@
+use mathlib.Core.Path.{_≡_, refl, sym, ap, _∙_}
+use Prim.Native.Nat.{ℕ, _≤_, _-_, _+_}
+use denote.Ref.{now}
+use Prim.Native.Nat.{_*_, _<_}
+use lib.ListN.{length, getD}
+use lib.Ieee.{Float, nan}
+use Rattle.real.specs.Operations.{zero}
+use Rattle.algebra.specs.Algebra.{reals}
+use Rattle.algebra.specs.Flat.{realParts}
+use Rattle.algebra.specs.Loop.{upto}
+use Rattle.algebra.proofs.Loop.{upto-turn, upto-end}
+use Rattle.matrices.specs.Matrix.{cell, Square}
+use Rattle.matrices.specs.Lu.{better, pivotOf}
+use Rattle.matrices.proofs.Places.{getD-any, walk, real-cell}
+use Rattle.matrices.specs.declared.Pivot.{Pivot}
+use borrow.Author.Needs.{needs}
+use native.Mathlib.Omega.{arith}
+use mathlib.Core.Path.{_≡_, refl, sym, ap, _∙_}
+use Prim.Native.Nat.{ℕ, _≤_, _-_, _+_}
+use denote.Ref.{now}
+use Prim.Native.Nat.{_*_, _<_}
+use native.Mathlib.Nat.{mul-le-mul, mul-le-mul-right}
+use lib.ListN.{length, getD}
+use lib.Ieee.{Float, nan}
+use Rattle.real.specs.Operations.{zero}
+use Rattle.algebra.specs.Algebra.{reals}
+use Rattle.algebra.specs.Flat.{realParts}
+use Rattle.algebra.specs.Loop.{upto}
+use Rattle.algebra.proofs.Loop.{upto-turn, upto-end}
+use Rattle.matrices.specs.Matrix.{cell, Square}
+use Rattle.matrices.specs.Lu.{better, pivotOf}
+use Rattle.matrices.proofs.Places.{getD-any, Few, few, real-cell}
+use Rattle.matrices.proofs.rows.find_pivot.Statement.{statement}
+use Rattle.matrices.proofs.rows.find_pivot.Tie as tie
+
+abbrev Inv-loop : tie.InvT-loop
+Inv-loop w n a i row at₀ b₀ k₀ at b k = (i ≤ k) × ((k ≤ n) × ((at ≡ k * row + i * w) × (upto k n (λ j. better (reals .re (cell reals n (realParts w a) j i)) j) b ≡ pivotOf reals n (realParts w a) i)))
+
+abbrev μ-loop : tie.MeasureT-loop
+μ-loop w n a i row at₀ b₀ k₀ at b k = n - k
+
+mul-row : tie.Need-mul-row Inv-loop μ-loop
+mul-row c = let s = c .before in let f = walk (s .args .w) (s .args .n) (s .args .i) (s .args .i) (s .pre .0 .small) (s .pre .0 .narrow) (omega arith) (omega arith) in omega arith
+
+mul-at : tie.Need-mul-at Inv-loop μ-loop
+mul-at c = let s = c .before in let f = walk (s .args .w) (s .args .n) (s .args .i) (s .args .i) (s .pre .0 .small) (s .pre .0 .narrow) (omega arith) (omega arith) in omega arith
+
+mul-at-2 : tie.Need-mul-at-2 Inv-loop μ-loop
+mul-at-2 c = let s = c .before in let f = walk (s .args .w) (s .args .n) (s .args .i) (s .args .i) (s .pre .0 .small) (s .pre .0 .narrow) (omega arith) (omega arith) in omega arith
+
+add-at : tie.Need-add-at Inv-loop μ-loop
+add-at c = let s = c .before in let f = walk (s .args .w) (s .args .n) (s .args .i) (s .args .i) (s .pre .0 .small) (s .pre .0 .narrow) (omega arith) (omega arith) in omega arith
+
+loop-holds : tie.Need-loop-holds Inv-loop μ-loop
+unfolding pivotOf
+loop-holds c = (omega arith, (omega arith, (refl, refl)))
+
+mul-better-row : tie.Need-mul-better-row Inv-loop μ-loop
+mul-better-row c =
+    let at = c .before in
+    let s = at .before .before in
+    let r = real-cell (s .args .w) (s .args .n) (now (s .args .a)) (at .loop .k) (s .args .i) (s .pre .0) (c .loop-test .taken) (s .pre .1) in
+    omega arith
+
+shared-slice-read-better-row : tie.Need-shared-slice-read-better-row Inv-loop μ-loop
+shared-slice-read-better-row c =
+    let at = c .before .before in
+    let s = at .before .before in
+    let r = real-cell (s .args .w) (s .args .n) (now (s .args .a)) (at .loop .k) (s .args .i) (s .pre .0) (c .before .loop-test .taken) (s .pre .1) in
+    omega arith
+
+better-row-requires : tie.Need-better-row-requires Inv-loop μ-loop
+better-row-requires c κs = search needs
+
+add-at-2 : tie.Need-add-at-2 Inv-loop μ-loop
+add-at-2 c =
+    let at = c .before .before .before in
+    let s = at .before .before in let f = walk (s .args .w) (s .args .n) (at .loop .k) (s .args .i) (s .pre .0 .small) (s .pre .0 .narrow) (omega arith) (omega arith) in omega arith
+
+add-k : tie.Need-add-k Inv-loop μ-loop
+add-k c = search needs
+
+loop-less : tie.Need-loop-less Inv-loop μ-loop
+loop-less c = search needs
+
+loop-again : tie.Need-loop-again Inv-loop μ-loop
+loop-again c =
+    let at = c .before .before .before in
+    let s = at .before .before in
+    let h = c .before .before .loop-test .taken in
+    let r = real-cell (s .args .w) (s .args .n) (now (s .args .a)) (at .loop .k) (s .args .i) (s .pre .0) h (s .pre .1) in
+    let j : at .loop .at < length (now (s .args .a)) = omega arith in
+    let e = getD-any (now (s .args .a)) (at .loop .at) nan zero j ∙ ap (λ (q : ℕ). getD (now (s .args .a)) q zero) (at .loop .inv .1 .1 .0) ∙ sym (r .1) in
+    (omega arith, (omega arith, (omega arith, upto-turn (at .loop .k) (s .args .n) _ (at .loop .b) _ h (c .better-row .ensures ∙ ap (λ (x : Float). better x (at .loop .k) (at .loop .b)) e) (at .loop .inv .1 .1 .1))))
+
+returns : tie.Need-returns Inv-loop μ-loop
+returns c = upto-end (c .before .loop .k) _ _ _ (c .loop-test .left) (c .before .loop .inv .1 .1 .1)
+
+pub find-pivot-spec : {M : Type 1} → statement M
+find-pivot-spec =
+    tie.close
+    (tie.spec
+    Inv-loop
+    μ-loop
+    mul-row
+    mul-at
+    mul-at-2
+    add-at
+    loop-holds
+    mul-better-row
+    shared-slice-read-better-row
+    better-row-requires
+    add-at-2
+    add-k
+    loop-less
+    loop-again
+    returns)

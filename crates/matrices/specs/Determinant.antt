@@ -1,0 +1,17 @@
+-- The determinant from factors and swap count over any record, as `determinant` in linalg.rs. Definitions only.
+use Prim.Native.Nat.{ℕ}
+use mathlib.Core.Bool.{cond}
+use mathlib.Core.List.{List}
+use Rattle.algebra.specs.Algebra.{Algebra, oneOf}
+use Rattle.algebra.specs.Loop.{upto}
+use Rattle.matrices.specs.Matrix.{cell}
+use Rattle.matrices.specs.Order.{isOdd}
+
+module _ {R : Type 0} (A : Algebra R) (n : ℕ) where
+  -- the Product of the diagonal: from one, left to right
+  unfoldable pub diagonal : List R → R
+  diagonal a = upto 0 n (λ i x. A .mul x (cell A n a i i)) (oneOf A)
+
+  -- negated where the count is odd
+  unfoldable pub determinantOf : List R → ℕ → R
+  determinantOf a swaps = cond (isOdd swaps) (A .neg (diagonal a)) (diagonal a)

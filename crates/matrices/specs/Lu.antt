@@ -1,0 +1,64 @@
+-- LU with row pivoting over any record: the steps of `LU::new` in linalg.rs. Definitions only.
+use Prim.Native.Nat.{ℕ, _+_, _*_}
+use mathlib.Core.Bool.{cond}
+use mathlib.Core.List.{List}
+use lib.Dec.{eqb}
+use lib.Ieee.{Float, lt, eq}
+use Rattle.real.specs.Operations as float
+use Rattle.real.specs.Sign.{absOf}
+use Rattle.algebra.specs.Algebra.{Algebra, zeroOf}
+use Rattle.algebra.specs.Flat.{tabulate}
+use Rattle.algebra.specs.Loop.{upto}
+use Rattle.matrices.specs.Matrix.{exchange, exchangeRows, cell, store}
+use Rattle.matrices.specs.declared.Pivot.{Pivot}
+
+-- where a run stands: the matrix, the order and the swaps so far; or the column in which no pivot exceeds zero
+pub data Run (R : Type 0) : Type 0 where
+  going : List R → List ℕ → ℕ → Run R
+  singular : ℕ → Run R
+
+-- row k with the real part x looked at: taken if |x| is strictly greater, so the first of equals stays and a NaN is never taken
+unfoldable pub better : Float → ℕ → Pivot → Pivot
+better x k b = let size = absOf x in cond (lt (b .size) size) (record { size = size; row = k }) b
+
+-- if the pivot is zero the run ends at column i; else its row and row i are exchanged if they differ, whole and in the order, counting one swap
+unfoldable pub bring : {B : Type 0} → B → ℕ → Pivot → ℕ → List B → List ℕ → ℕ → Run B
+bring d k b i a p swaps =
+    cond (eq (b .size) float.zero)
+    (singular i)
+    (cond (eqb (b .row) i) (going a p swaps) (going (exchangeRows d k i (b .row) a) (exchange 0 i (b .row) p) (swaps + 1)))
+
+-- 0, 1, .., n - 1
+abbrev pub numbers : ℕ → List ℕ
+numbers n = tabulate (λ k. k) n 0
+
+module _ {R : Type 0} (A : Algebra R) (n : ℕ) where
+  -- the first row from i on with the greatest |re| in column i, starting from zero
+  unfoldable pub pivotOf : List R → ℕ → Pivot
+  pivotOf a i = upto i n (λ k. better (A .re (cell A n a k i)) k) (record { size = float.zero; row = i })
+
+  -- a[(j, k)] = a[(j, k)] - a[(j, i)] * a[(i, k)]
+  unfoldable pub subtract : ℕ → ℕ → ℕ → List R → List R
+  subtract i j k a = store A n a j k (A .sub (cell A n a j k) (A .mul (cell A n a j i) (cell A n a i k)))
+
+  -- a[(j, i)] = a[(j, i)] / a[(i, i)]; for k in i + 1..n
+  unfoldable pub reduceRow : ℕ → ℕ → List R → List R
+  reduceRow i j a = upto (i + 1) n (subtract i j) (store A n a j i (A .div (cell A n a j i) (cell A n a i i)))
+
+  -- for j in i + 1..n
+  unfoldable pub reduce : ℕ → List R → List R
+  reduce i a = upto (i + 1) n (reduceRow i) a
+
+  -- the same of a run
+  abbrev pub reduceRun : ℕ → Run R → Run R
+  reduceRun i (going a p swaps) = going (reduce i a) p swaps
+  reduceRun i (singular c) = singular c
+
+  -- column i: the pivot, the exchange, the rows below
+  unfoldable pub column : ℕ → Run R → Run R
+  column i (going a p swaps) = reduceRun i (bring (zeroOf A) n (pivotOf a i) i a p swaps)
+  column i (singular c) = singular c
+
+  -- for i in 0..n
+  unfoldable pub luOf : List R → Run R
+  luOf a = upto 0 n column (going a (numbers n) 0)

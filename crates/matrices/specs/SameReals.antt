@@ -1,0 +1,24 @@
+-- What demand 3 says of two calls of an entry: equal answers, columns, counts and orders, and equal real parts of what is written or handed back. Definitions only.
+use Prim.Native.Nat.{ℕ}
+use mathlib.Core.Path.{_≡_}
+use mathlib.Core.List.{List}
+use Rattle.algebra.specs.Flat.{realParts}
+use Rattle.algebra.specs.Outcome.{Outcome, value, refused}
+use Rattle.matrices.specs.Entries.{LuLeft, SolveLeft}
+
+-- the call wrote: it is done, or refused 6
+abbrev pub Wrote : {R : Type 0} → Outcome R → Type 0
+Wrote (value x) = Unit {0}
+Wrote (refused number) = number ≡ 6
+
+-- two calls of LU, at w floats a record
+pub record SameLu (w : ℕ) (x y : LuLeft) : Type 0 where
+  pub answer : x .answer ≡ y .answer
+  pub column : x .column ≡ y .column
+  pub order : Wrote (x .answer) → x .order ≡ y .order
+  pub factors : Wrote (x .answer) → realParts w (x .factors) ≡ realParts w (y .factors)
+
+-- two calls of solve or of inverse
+pub record SameSolve (w : ℕ) (x y : SolveLeft) : Type 0 where
+  pub answer : x .answer ≡ y .answer
+  pub result : Wrote (x .answer) → realParts w (x .result) ≡ realParts w (y .result)

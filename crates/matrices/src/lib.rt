@@ -1,0 +1,18 @@
+// What LU, solve, determinant and inverse share whatever the record: code that knows only a record's width in floats and the real parts.
+// Inner: for the crates that hold the entries. Its functions have a `requires`, which those crates show.
+pub mod floats;
+pub mod order;
+pub mod refusal;
+pub mod rows;
+
+// The best row so far for a column, with the magnitude of its real part.
+pub struct Pivot {
+    pub size: f64,
+    pub row: usize,
+}
+
+// Where a column of LU leaves the run.
+pub enum Step {
+    Singular { column: usize },
+    Going { swaps: usize },
+}

@@ -1,0 +1,114 @@
+// The refusals of the four entries, by number, in document 01's order; 0 where none applies. A record has w floats.
+use super::order;
+ghost use mathlib.Core.Path.{_≡_};
+ghost use Prim.Native.Nat.{ℕ, _<_, _≤_};
+ghost use Rattle.matrices.specs.Entries.{luRefusal, orderRefusal, solveRefusal, inverseRefusal, swapsRefusal, determinantRefusal};
+
+// Of LU, by the lengths that are lent.
+pub fn lu(w: usize, n: usize, a: usize, factors: usize, order: usize) -> u32
+    requires { ⌜ w ≤ 8 ⌝ }
+    ensures { λ r. ⌜ r ≡ luRefusal w n a factors order ⌝ }
+{
+    if 32 < n {
+        return algebra::TOO_LARGE;
+    }
+    let full = n * n * w;
+    if a != full {
+        return algebra::WRONG_LENGTH;
+    }
+    if factors != full {
+        return algebra::WRONG_LENGTH;
+    }
+    if order != n {
+        return algebra::WRONG_LENGTH;
+    }
+    0
+}
+
+// Of an order as long as it must be.
+fn not_an_order(n: usize, order: &[usize]) -> u32
+    ensures { λ r. ⌜ r ≡ orderRefusal n (now (order .entry)) ⌝ }
+{
+    if order::is_order(n, order) {
+        0
+    } else {
+        algebra::NOT_AN_ORDER
+    }
+}
+
+// Of solve.
+pub fn solve(w: usize, n: usize, factors: usize, order: &[usize], b: usize, x: usize) -> u32
+    requires { ⌜ w ≤ 8 ⌝ }
+    ensures { λ r. ⌜ r ≡ solveRefusal w n factors (now (order .entry)) b x ⌝ }
+{
+    if 32 < n {
+        return algebra::TOO_LARGE;
+    }
+    if factors != n * n * w {
+        return algebra::WRONG_LENGTH;
+    }
+    if order.len() != n {
+        return algebra::WRONG_LENGTH;
+    }
+    if b != n * w {
+        return algebra::WRONG_LENGTH;
+    }
+    if x != n * w {
+        return algebra::WRONG_LENGTH;
+    }
+    not_an_order(n, order)
+}
+
+// Of inverse.
+pub fn inverse(w: usize, n: usize, factors: usize, order: &[usize], out: usize) -> u32
+    requires { ⌜ w ≤ 8 ⌝ }
+    ensures { λ r. ⌜ r ≡ inverseRefusal w n factors (now (order .entry)) out ⌝ }
+{
+    if 32 < n {
+        return algebra::TOO_LARGE;
+    }
+    let full = n * n * w;
+    if factors != full {
+        return algebra::WRONG_LENGTH;
+    }
+    if order.len() != n {
+        return algebra::WRONG_LENGTH;
+    }
+    if out != full {
+        return algebra::WRONG_LENGTH;
+    }
+    not_an_order(n, order)
+}
+
+// Of a swap count beside an order.
+fn wrong_swaps(order: &[usize], swaps: usize) -> u32
+    ensures { λ r. ⌜ r ≡ swapsRefusal (now (order .entry)) swaps ⌝ }
+{
+    if 32 < swaps {
+        return algebra::WRONG_SWAPS;
+    }
+    if order::differs(swaps % 2 == 1, order::is_odd(order)) {
+        return algebra::WRONG_SWAPS;
+    }
+    0
+}
+
+// Of determinant.
+pub fn determinant(w: usize, n: usize, factors: usize, order: &[usize], swaps: usize) -> u32
+    requires { ⌜ w ≤ 8 ⌝ }
+    ensures { λ r. ⌜ r ≡ determinantRefusal w n factors (now (order .entry)) swaps ⌝ }
+{
+    if 32 < n {
+        return algebra::TOO_LARGE;
+    }
+    if factors != n * n * w {
+        return algebra::WRONG_LENGTH;
+    }
+    if order.len() != n {
+        return algebra::WRONG_LENGTH;
+    }
+    if order::is_order(n, order) {
+        return wrong_swaps(order, swaps);
+    }
+    algebra::NOT_AN_ORDER
+}
