@@ -5,12 +5,13 @@ use mathlib.Core.Bool.{Bool, true, false, cond}
 use mathlib.Core.List.{List}
 use native.Mathlib.Nat.{pow-suc, pow-le-pow-right, mul-le-mul-left, mul-le-mul-right}
 use native.Mathlib.Omega.{arith}
-use lib.Dec.{lit≤, lit<}
-use Rattle.dualrun_text.specs.Digits.{byteAt, isDigit, digitValue, digitRun, numberAt}
+use lib.Dec.{ltb, lit<}
+use borrow.Author.Tests.{le-leb, lt-leb, lt-ltb, le-ltb}
+use Rattle.dualrun_text.specs.declared.Scan.{Scan}
+use Rattle.dualrun_text.specs.Digits.{byteAt, isDigit, digitValue, digitRun, numberAt, scanOf}
 
 -- a number of k digits with one digit more
-pub grown : (v base d k : ℕ) → v < 16 ^ k → base ≤ 16 → d < base → k < 16
-    → (v * base < 2 ^ 64) × (v * base + d < 2 ^ 64) × (v * base + d < 16 ^ (k + 1))
+grown : (v base d k : ℕ) → v < 16 ^ k → base ≤ 16 → d < base → k < 16 → (v * base < 2 ^ 64) × (v * base + d < 2 ^ 64) × (v * base + d < 16 ^ (k + 1))
 grown v base d k hv hb hd hk =
     let m : v * base ≤ v * 16 = mul-le-mul-left v hb in
     let w : suc v * 16 ≤ 16 ^ k * 16 = mul-le-mul-right 16 hv in
@@ -18,46 +19,86 @@ grown v base d k hv hb hd hk =
     let t : 16 ^ (k + 1) ≤ 16 ^ 16 = pow-le-pow-right (lit< tt) (let s : k + 1 ≤ 16 = omega arith in s) in
     (omega arith, omega arith, omega arith)
 
-module _ (base : ℕ) (text : List ℕ) where
-  pub digit-run-most : (d p : ℕ) → digitRun base d text p ≤ d
-  unfolding digitRun
-  digit-run-most zero p = omega arith
-  digit-run-most (suc d) p = by (isDigit base (byteAt text p))
-    where
-      by : (b : Bool) → cond b (suc (digitRun base d text (p + 1))) 0 ≤ suc d
-      by true = omega (arith, digit-run-most d (p + 1))
-      by false = omega arith
+module _ (base : ℕ) (text : List ℕ) (most p : ℕ) where
+  -- k digits are read, which spell v; the rest is still to be read
+  pub record Scanned (v k : ℕ) : Type 0 where
+    pub within : k ≤ most
+    pub small : v < 16 ^ k
+    pub spelled : v ≡ numberAt base text p k
+    pub passed : digitRun base most text p ≡ k + digitRun base (most - k) text (p + k)
 
-  -- k digits are passed, the rest is still to be read: at a digit, at another byte, at the end
-  abbrev pub Passed : ℕ → ℕ → ℕ → Type 0
-  Passed most p k = digitRun base most text p ≡ k + digitRun base (most - k) text (p + k)
-
-  pub passed-digit : (most p k : ℕ) → k < most → isDigit base (byteAt text (p + k)) ≡ true → Passed most p k → Passed most p (k + 1)
-  unfolding digitRun
-  passed-digit most p k h e i =
-      let s : most - k ≡ suc (most - (k + 1)) = omega arith in
-      let r : digitRun base (most - k) text (p + k) ≡ suc (digitRun base (most - (k + 1)) text (p + k + 1)) =
-      ap (λ (d : ℕ). digitRun base d text (p + k)) s ∙ ap (λ (b : Bool). cond b (suc (digitRun base (most - (k + 1)) text (p + k + 1))) 0) e in
-      let q : digitRun base (most - (k + 1)) text (p + k + 1) ≡ digitRun base (most - (k + 1)) text (p + (k + 1)) =
-      ap (digitRun base (most - (k + 1)) text) (let z : p + k + 1 ≡ p + (k + 1) = omega arith in z) in
-      omega arith
-
-  pub passed-other : (most p k : ℕ) → k < most → isDigit base (byteAt text (p + k)) ≡ false → Passed most p k → digitRun base most text p ≡ k
-  unfolding digitRun
-  passed-other most p k h e i =
-      let s : most - k ≡ suc (most - (k + 1)) = omega arith in
-      let r : digitRun base (most - k) text (p + k) ≡ 0 =
-      ap (λ (d : ℕ). digitRun base d text (p + k)) s ∙ ap (λ (b : Bool). cond b (suc (digitRun base (most - (k + 1)) text (p + k + 1))) 0) e in
-      omega arith
-
-  pub passed-all : (most p k : ℕ) → most ≤ k → k ≤ most → Passed most p k → digitRun base most text p ≡ k
-  unfolding digitRun
-  passed-all most p k h g i =
-      let r : digitRun base (most - k) text (p + k) ≡ 0 = ap (λ (d : ℕ). digitRun base d text (p + k)) (let z : most - k ≡ 0 = omega arith in z) in
-      omega arith
-
-  pub number-more : (p k v : ℕ) → v ≡ numberAt base text p k → v * base + digitValue (byteAt text (p + k)) ≡ numberAt base text p (k + 1)
+  pub scanned-none : Scanned 0 0
   unfolding numberAt
-  number-more p k v e =
-      ap (λ (x : ℕ). x * base + digitValue (byteAt text (p + k))) e
-      ∙ ap (numberAt base text p) (let z : suc k ≡ k + 1 = omega arith in z)
+  scanned-none = record {
+    within = omega arith;
+    small = lit< tt;
+    spelled = refl;
+    passed = ap (λ (d : ℕ). digitRun base d text p) (let e : most ≡ most - 0 = omega arith in e) ∙ ap (digitRun base (most - 0) text) (let e : p ≡ p + 0 = omega arith in e) ∙ (let e : digitRun base (most - 0) text (p + 0) ≡ 0 + digitRun base (most - 0) text (p + 0) = omega arith in e);
+  }
+
+  ended : (v k : ℕ) → v ≡ numberAt base text p k → k ≡ digitRun base most text p → _≡_ {A = Scan} (record { value = v; digits = k }) (scanOf base most text p)
+  ended v k e g = ap {B = Scan} (λ (x : ℕ). record { value = x; digits = k }) e ∙ ap {B = Scan} (λ (x : ℕ). record { value = numberAt base text p x; digits = x }) g
+
+  module _ (v k d : ℕ) (inside : k < most) (digit : d ≡ digitValue (byteAt text (p + k))) (scanned : Scanned v k) where
+    -- what is left, by its first byte
+    left : (b : Bool) → isDigit base (byteAt text (p + k)) ≡ b → digitRun base (most - k) text (p + k) ≡ cond b (suc (digitRun base (most - (k + 1)) text (p + k + 1))) 0
+    unfolding digitRun
+    left b e =
+        ap (λ (n : ℕ). digitRun base n text (p + k)) (let s : most - k ≡ suc (most - (k + 1)) = omega arith in s)
+        ∙ ap (λ (t : Bool). cond t (suc (digitRun base (most - (k + 1)) text (p + k + 1))) 0) e
+
+    test : (b : Bool) → ltb d base ≡ b → isDigit base (byteAt text (p + k)) ≡ b
+    test b e = ap (λ (x : ℕ). ltb x base) (sym digit) ∙ e
+
+    pub digit-fits : base ≤ 16 → most ≤ 16 → d < base → (v * base < 2 ^ 64) × (v * base + d < 2 ^ 64)
+    digit-fits hb hm hd = let g = grown v base d k (scanned .small) hb hd (omega arith) in (g .0, g .1)
+
+    pub scanned-more : base ≤ 16 → most ≤ 16 → d < base → Scanned (v * base + d) (k + 1)
+    unfolding numberAt
+    scanned-more hb hm hd =
+        let l : digitRun base (most - k) text (p + k) ≡ suc (digitRun base (most - (k + 1)) text (p + k + 1)) = left true (test true (lt-ltb d base hd)) in
+        let q : digitRun base (most - (k + 1)) text (p + k + 1) ≡ digitRun base (most - (k + 1)) text (p + (k + 1)) = ap (digitRun base (most - (k + 1)) text) (let z : p + k + 1 ≡ p + (k + 1) = omega arith in z) in
+        let i = scanned .passed in
+        record {
+          within = omega arith;
+          small = grown v base d k (scanned .small) hb hd (omega arith) .2;
+          spelled =
+              ap (λ (x : ℕ). x * base + d) (scanned .spelled) ∙ ap (λ (x : ℕ). numberAt base text p k * base + x) digit
+              ∙ ap (numberAt base text p) (let z : suc k ≡ k + 1 = omega arith in z);
+          passed = omega arith;
+        }
+
+    pub scanned-stops : base ≤ d → _≡_ {A = Scan} (record { value = v; digits = k }) (scanOf base most text p)
+    scanned-stops h =
+        let l : digitRun base (most - k) text (p + k) ≡ 0 = left false (test false (le-ltb d base h)) in
+        let i = scanned .passed in
+        ended v k (scanned .spelled) (omega arith)
+
+  pub scanned-full : (v k : ℕ) → most ≤ k → Scanned v k → _≡_ {A = Scan} (record { value = v; digits = k }) (scanOf base most text p)
+  unfolding digitRun
+  scanned-full v k h scanned =
+      let w = scanned .within in
+      let l : digitRun base (most - k) text (p + k) ≡ 0 = ap (λ (n : ℕ). digitRun base n text (p + k)) (let z : most - k ≡ 0 = omega arith in z) in
+      let i = scanned .passed in
+      ended v k (scanned .spelled) (omega arith)
+
+-- ---- the value of a byte, by where it lies
+pub value-under-digits : (b : ℕ) → b < 48 → 16 ≡ digitValue b
+unfolding digitValue
+value-under-digits b h = let g : b < 97 = omega arith in rw (lt-leb 48 b h, lt-leb 97 b g)
+
+pub value-digit : (b : ℕ) → 48 ≤ b → b ≤ 57 → b - 48 ≡ digitValue b
+unfolding digitValue
+value-digit b g h = rw (le-leb 48 b g, le-leb b 57 h)
+
+pub value-between : (b : ℕ) → 57 < b → b < 97 → 16 ≡ digitValue b
+unfolding digitValue
+value-between b g h = let f : 48 ≤ b = omega arith in rw (le-leb 48 b f, lt-leb b 57 g, lt-leb 97 b h)
+
+pub value-letter : (b : ℕ) → 97 ≤ b → b ≤ 102 → b - 87 ≡ digitValue b
+unfolding digitValue
+value-letter b g h = let f : 48 ≤ b = omega arith in let e : 57 < b = omega arith in rw (le-leb 48 b f, lt-leb b 57 e, le-leb 97 b g, le-leb b 102 h)
+
+pub value-over-letters : (b : ℕ) → 102 < b → 16 ≡ digitValue b
+unfolding digitValue
+value-over-letters b h = let f : 48 ≤ b = omega arith in let e : 57 < b = omega arith in let g : 97 ≤ b = omega arith in rw (le-leb 48 b f, lt-leb b 57 e, le-leb 97 b g, lt-leb b 102 h)

@@ -7,7 +7,7 @@ use lib.Dec.{ltb}
 use borrow.Author.Tests.{ltb-true, ltb-false}
 use Rattle.dualrun_text.specs.Digits.{every}
 
-and-false : (b : Bool) → (b && false) ≡ false
+pub and-false : (b : Bool) → (b && false) ≡ false
 and-false true = refl
 and-false false = refl
 
@@ -17,14 +17,15 @@ module _ (p : ℕ → Bool) where
   every-true zero h = refl
   every-true (suc n) h = ap (λ (b : Bool). b && p n) (every-true n (λ k lt. h k (omega arith))) ∙ h n (omega arith)
 
+  -- one number that fails, by whether it is the last
+  at : (n k : ℕ) (b : Bool) → k < suc n → ltb k n ≡ b → (k < n → every p n ≡ false) → p k ≡ false → (every p n && p n) ≡ false
+  at n k true lt t h e = ap (λ (b : Bool). b && p n) (h (ltb-true k n t))
+  at n k false lt t h e = ap (λ (b : Bool). every p n && b) (ap p (last n k lt (ltb-false k n t)) ∙ e) ∙ and-false (every p n)
+    where
+      last : (n k : ℕ) → k < suc n → n ≤ k → n ≡ k
+      last n k lt le = omega arith
+
   pub every-false : (n k : ℕ) → k < n → p k ≡ false → every p n ≡ false
   unfolding every
   every-false zero k lt e = absurd (omega arith)
-  every-false (suc n) k lt e = by (ltb k n) refl
-    where
-      by : (b : Bool) → ltb k n ≡ b → (every p n && p n) ≡ false
-      by true t = ap (λ (b : Bool). b && p n) (every-false n k (ltb-true k n t) e)
-      by false t = ap (λ (b : Bool). every p n && b) (ap p (last (ltb-false k n t)) ∙ e) ∙ and-false (every p n)
-        where
-          last : (h : n ≤ k) → n ≡ k
-          last h = omega arith
+  every-false (suc n) k lt e = at n k (ltb k n) lt refl (λ h. every-false n k h e) e

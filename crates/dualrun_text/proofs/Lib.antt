@@ -1,4 +1,9 @@
 -- Laws that the proofs cite. Assumes nothing.
+-- reading
 mod Every
 mod Digits
+mod FirstLine
+mod Words
+-- writing
 mod Page
+mod Lines

@@ -12,9 +12,14 @@ unfolding written
 written-append p [] b = refl
 written-append p (x ∷ a) b = written-append (withByte p x) a b
 
--- after the text a, the text b more
-pub then : {p q r : Page} (a b : List ℕ) → q ≡ written p a → r ≡ written q b → r ≡ written p (a ++ b)
-then {p} a b g h = h ∙ ap (λ (s : Page). written s b) g ∙ written-append p a b
+module _ (p : Page) where
+  -- after the text a, the text b more
+  pub then : {q r : Page} (a b : List ℕ) → q ≡ written p a → r ≡ written q b → r ≡ written p (a ++ b)
+  then a b g h = h ∙ ap (λ (s : Page). written s b) g ∙ written-append p a b
+
+  -- a line of four parts
+  pub four-parts : {q r s t : Page} (a b d e : List ℕ) → q ≡ written p a → r ≡ written q b → s ≡ written r d → t ≡ written s e → t ≡ written p (a ++ b ++ d ++ e)
+  four-parts a b d e g h i j = then (a ++ b ++ d) e (then (a ++ b) d (then a b g h) i) j
 
 pub written-length : (p : Page) (a : List ℕ) → length (written p a .bytes) ≡ length (p .bytes)
 unfolding written

@@ -16,24 +16,26 @@ numberFrom text p =
     let k = digitRun 10 10 text p in
     cond (ltb 0 k && ltb k 10) (Is (numberAt 10 text p k) (p + k)) Not
 
--- the request, if the byte at `end` is the one wanted there
-abbrev pub ifAt : List ℕ → ℕ → ℕ → Request → Request
-ifAt text end wanted r = cond (eqb (byteAt text end) wanted) r Unreadable
+-- what f makes of the number and of the place after the byte that is wanted behind it
+abbrev pub after : List ℕ → ℕ → (ℕ → ℕ → Request) → Number → Request
+after text wanted f (Is value end) = cond (eqb (byteAt text end) wanted) (f value (end + 1)) Unreadable
+after text wanted f Not = Unreadable
+
+-- a number from p on, the byte wanted behind it, and so on by f
+unfoldable pub numberThen : List ℕ → ℕ → ℕ → (ℕ → ℕ → Request) → Request
+numberThen text p wanted f = after text wanted f (numberFrom text p)
 
 -- N and the newline: the matrix starts after it
-abbrev pub luAfter : List ℕ → Number → Request
-luAfter text (Is n end) = ifAt text end 10 (Lu n (end + 1))
-luAfter text Not = Unreadable
+abbrev pub luLine : List ℕ → Request
+luLine text = numberThen text 3 10 Lu
 
 -- S and the newline, after N
-abbrev pub limitAfter : List ℕ → ℕ → Number → Request
-limitAfter text n (Is limit end) = ifAt text end 10 (Eig n limit (end + 1))
-limitAfter text n Not = Unreadable
+abbrev pub limitLine : List ℕ → ℕ → ℕ → Request
+limitLine text n p = numberThen text p 10 (Eig n)
 
 -- N and a space, then S
-abbrev pub eigAfter : List ℕ → Number → Request
-eigAfter text (Is n end) = ifAt text end 32 (limitAfter text n (numberFrom text (end + 1)))
-eigAfter text Not = Unreadable
+abbrev pub eigLine : List ℕ → Request
+eigLine text = numberThen text 4 32 (limitLine text)
 
 -- "lu "
 abbrev pub luWord : List ℕ
@@ -45,7 +47,4 @@ eigWord = 101 ∷ 105 ∷ 103 ∷ 32 ∷ []
 
 -- what a first line asks
 unfoldable pub requestOf : List ℕ → Request
-requestOf text =
-    cond (startsWith luWord text) (luAfter text (numberFrom text 3))
-    (cond (startsWith eigWord text) (eigAfter text (numberFrom text 4))
-    Unreadable)
+requestOf text = cond (startsWith luWord text) (luLine text) (cond (startsWith eigWord text) (eigLine text) Unreadable)

@@ -16,8 +16,15 @@ enum Number {
 
 // What the first line asks, and where the matrix starts.
 enum Request {
-    Lu { n: usize, start: usize },
-    Eig { n: usize, limit: usize, start: usize },
+    Lu {
+        n: usize,
+        start: usize,
+    },
+    Eig {
+        n: usize,
+        limit: usize,
+        start: usize,
+    },
     Unreadable,
 }
 

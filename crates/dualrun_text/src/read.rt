@@ -8,7 +8,7 @@ ghost use mathlib.Core.Bool.{true};
 ghost use Prim.Native.Nat.{_≤_, _<_};
 ghost use lib.ListN.{length};
 ghost use Rattle.dualrun_text.specs.Digits.{byteAt, startsWith, digitValue, scanOf};
-ghost use Rattle.dualrun_text.specs.Request.{numberFrom, luAfter, eigAfter, limitAfter, requestOf};
+ghost use Rattle.dualrun_text.specs.Request.{numberFrom, luLine, eigLine, limitLine, requestOf};
 ghost use Rattle.dualrun_text.specs.Body.{separatorOf, wordAt, isBody, floatsFrom};
 
 // The byte at p; 0, which no line has, past the end.
@@ -93,7 +93,7 @@ fn number(text: &[u8], p: usize) -> Number
 
 // N and the newline.
 fn lu_line(text: &[u8]) -> Request
-    ensures { λ r. ⌜ r ≡ luAfter (now (text .entry)) (numberFrom (now (text .entry)) 3) ⌝ }
+    ensures { λ r. ⌜ r ≡ luLine (now (text .entry)) ⌝ }
 {
     let Number::Is { value, end } = number(text, 3) else {
         return Request::Unreadable;
@@ -110,7 +110,7 @@ fn lu_line(text: &[u8]) -> Request
 // S and the newline, after N.
 fn limit_line(text: &[u8], n: usize, p: usize) -> Request
     requires { ⌜ p < 32 ⌝ }
-    ensures { λ r. ⌜ r ≡ limitAfter (now (text .entry)) n (numberFrom (now (text .entry)) p) ⌝ }
+    ensures { λ r. ⌜ r ≡ limitLine (now (text .entry)) n p ⌝ }
 {
     let Number::Is { value, end } = number(text, p) else {
         return Request::Unreadable;
@@ -127,7 +127,7 @@ fn limit_line(text: &[u8], n: usize, p: usize) -> Request
 
 // N and a space, then S.
 fn eig_line(text: &[u8]) -> Request
-    ensures { λ r. ⌜ r ≡ eigAfter (now (text .entry)) (numberFrom (now (text .entry)) 4) ⌝ }
+    ensures { λ r. ⌜ r ≡ eigLine (now (text .entry)) ⌝ }
 {
     let Number::Is { value, end } = number(text, 4) else {
         return Request::Unreadable;

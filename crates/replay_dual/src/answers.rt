@@ -8,7 +8,10 @@ use replay::records::Request;
 
 // A record of places.
 fn record_of(pool: &[u64; 256], places: u64) -> Dual {
-    Dual::new(records::pooled(pool, places, 1), records::pooled(pool, places, 0))
+    Dual::new(
+        records::pooled(pool, places, 1),
+        records::pooled(pool, places, 0),
+    )
 }
 
 // The record's words, from number `from` on.
@@ -27,6 +30,9 @@ fn of_record(x: Dual) -> Answer {
 fn of_answer(answer: DualAnswer) -> Answer {
     match answer {
         DualAnswer::Value(x) => of_record(x),
-        DualAnswer::Refused(n) => Answer { number: n as u64, words: [0u64; 16] },
+        DualAnswer::Refused(n) => Answer {
+            number: n as u64,
+            words: [0u64; 16],
+        },
     }
 }

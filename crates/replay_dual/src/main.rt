@@ -1,5 +1,6 @@
 // Replays the recorded answers of `Dual`: records-dual.txt and runs-dual.txt.
 mod answers;
+
 use dual::Dual;
 use dual::DualAnswer;
 use replay::Place;
@@ -23,7 +24,12 @@ fn case(file: i32, buffer: &mut [u8; 4096], pool: &[u64; 256], run: Run) -> Run 
     let place = read.place;
     let got = answers::answer(pool, &line);
     let words = got.words;
-    let agree = records::same(&line, got.number, words, records::answer_words(line[0], PARTS));
+    let agree = records::same(
+        &line,
+        got.number,
+        words,
+        records::answer_words(line[0], PARTS),
+    );
     let tally = replay::counted(tally, read.whole && agree);
     Run { place, tally }
 }
