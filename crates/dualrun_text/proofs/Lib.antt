@@ -7,3 +7,5 @@ mod Words
 -- writing
 mod Page
 mod Lines
+-- printing what was read gives it back
+pub mod ReadBack
