@@ -1,24 +1,24 @@
 -- The entries over any record: which facts a call that is not refused may take for granted, and demand 3 of what two calls leave. Assumes nothing.
-use Prim.Native.Nat.{ℕ, zero, suc, _*_, _≤_, _<_}
+use Prim.Native.Nat.{ℕ, zero, suc, _*_, _≤_}
 use mathlib.Core.Path.{_≡_, refl, ap, sym, _∙_}
-use mathlib.Core.Bool.{Bool, true, false, cond, _&&_, _||_}
+use mathlib.Core.Bool.{Bool, true, false, cond, _&&_}
 use mathlib.Core.List.{List, map}
 use native.Mathlib.Omega.{arith}
 use lib.Dec.{ltb, eqb}
 use lib.ListN.{length, replicate}
 use lib.Ieee.{Float}
-use borrow.Author.Tests.{ltb-false, eqb-true, eqb-false, eq-eqb, ne-eqb}
+use borrow.Author.Tests.{ltb-false, eqb-true, eq-eqb, ne-eqb}
 use Rattle.real.specs.Operations as float
 use Rattle.algebra.specs.Algebra.{Algebra, RealParts, reals}
 use Rattle.algebra.specs.Flat.{Layout, Lawful, Agrees, realParts, decode, encode}
-use Rattle.algebra.specs.Outcome.{Outcome, value, refused, mapOutcome}
-use Rattle.algebra.proofs.Flat.{decode-reals, decode-encode}
-use Rattle.matrices.specs.Entries.{luRefusal, orderRefusal, swapsRefusal, solveRefusal, inverseRefusal, determinantRefusal, LuLeft, luAnswered, SolveLeft, solveAnswered, luFinish, luLeft, solveLeft, inverseLeft, determinantLeft}
+use Rattle.algebra.specs.Outcome.{value, refused, mapOutcome}
+use Rattle.algebra.proofs.Flat.{decode-reals, decode-encode, encode-decode}
+use Rattle.matrices.specs.Entries.{luRefusal, orderRefusal, swapsRefusal, solveRefusal, inverseRefusal, determinantRefusal, LuLeft, luAnswered, solveAnswered, luFinish, luLeft, solveLeft, inverseLeft, determinantLeft}
 use Rattle.matrices.specs.Determinant.{determinantOf}
 use Rattle.matrices.specs.Inverse.{inverseOf}
 use Rattle.matrices.specs.Lu.{Run, going, singular, luOf}
-use Rattle.matrices.specs.Order.{Order, isOrder, differ, parity, isOdd}
-use Rattle.matrices.specs.SameReals.{Wrote, SameLu, SameSolve}
+use Rattle.matrices.specs.Order.{Order, isOrder}
+use Rattle.matrices.specs.SameReals.{SameLu, SameSolve}
 use Rattle.matrices.specs.Solve.{solveOf}
 use Rattle.matrices.proofs.Permutation.{both, isOrder-order}
 use Rattle.matrices.proofs.Slopes.{mapRun, lu-map, solve-map, inverse-map, determinant-map}
@@ -126,6 +126,14 @@ module _ {R : Type 0} (A : Algebra R) (L : Layout R) (n : ℕ) where
       → refused k ≡ determinantLeft A L n f o s
   unfolding determinantLeft
   determinant-refused f o s k e ne = ap (λ (j : ℕ). refused j) e ∙ turned (determinantRefusal (L .width) n (length f) o s) _ _ (λ z. ne (e ∙ z))
+
+-- how a run ends, from what the buffers hold
+module _ {R : Type 0} (A : Algebra R) (L : Layout R) (W : Lawful L) (n : ℕ) (r : Run R) (f : List Float) (p : List ℕ) where
+  pub finish-done : (swaps : ℕ) → r ≡ going (decode L f) p swaps → length f ≡ n * n * L .width → luAnswered (value swaps) 0 f p ≡ luFinish A L n r
+  finish-done swaps e h = rw e (ap (λ (l : List Float). luAnswered (value swaps) 0 l p) (sym (encode-decode L W f (n * n) h)))
+
+  pub finish-singular : (c : ℕ) → r ≡ singular c → f ≡ replicate (n * n * L .width) float.zero → p ≡ replicate n 0 → luAnswered (refused 6) c f p ≡ luFinish A L n r
+  finish-singular c e ef ep = rw e (λ i. luAnswered (refused 6) c (ef i) (ep i))
 
 -- ---- demand 3 of what two calls leave
 

@@ -2,7 +2,7 @@
 -- lists: what a filling loop has passed, what is left of a list
 mod Fill
 mod Rest
-mod Odd
+pub mod Odd
 -- places of a square matrix in flat floats
 pub mod Places
 -- LU: its columns case by case

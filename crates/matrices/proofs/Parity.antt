@@ -1,5 +1,5 @@
 -- The parity of an order: an exchange flips it, 0..n-1 is even, and LU's order is a permutation with the parity of the swap count. Assumes nothing.
-use Prim.Native.Nat.{ℕ, zero, suc, _+_, _≤_, _<_}
+use Prim.Native.Nat.{ℕ, zero, suc, _≤_, _<_}
 use mathlib.Core.Path.{_≡_, refl, ap, sym, _∙_}
 use mathlib.Core.Bool.{Bool, true, false, not, Bool·not-not}
 use mathlib.Core.List.{List, [], _∷_}
@@ -13,14 +13,13 @@ use borrow.Author.Tests.{lt-ltb, le-ltb, eqb-true, eqb-false}
 use Rattle.real.specs.Operations as float
 use Rattle.algebra.specs.Algebra.{Algebra, zeroOf}
 use Rattle.algebra.specs.Flat.{tabulate}
-use Rattle.algebra.specs.Loop.{upto}
 use Rattle.algebra.proofs.Loop.{upto-keep}
 use Rattle.matrices.specs.Matrix.{exchange}
 use Rattle.matrices.specs.Lu.{Run, going, singular, numbers, bring, pivotOf, reduceRun, column, luOf}
-use Rattle.matrices.specs.Order.{All, Distinct, Order, differ, oddBelow, parity, isOdd}
+use Rattle.matrices.specs.Order.{Distinct, Order, differ, oddBelow, parity, isOdd}
 use Rattle.matrices.specs.declared.Pivot.{Pivot}
 use Rattle.matrices.proofs.Lu.{pivot-row, bring-none, bring-stays, bring-moves}
-use Rattle.matrices.proofs.Permutation.{fore, fore-all, all-at, exchange-order, numbers-order}
+use Rattle.matrices.proofs.Permutation.{fore, all-at, exchange-order, numbers-order}
 
 -- ---- the parity of such an exchange
 

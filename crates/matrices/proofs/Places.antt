@@ -1,7 +1,7 @@
 -- Places of a square matrix in flat floats: all that is not linear in the indices of the code. Assumes nothing.
-use Prim.Native.Nat.{ℕ, zero, suc, _+_, _-_, _*_, _/_, _≤_, _<_}
-use mathlib.Core.Path.{_≡_, refl, ap, sym, _∙_}
-use mathlib.Core.List.{List, [], _∷_}
+use Prim.Native.Nat.{ℕ, _+_, _*_, _/_, _≤_, _<_}
+use mathlib.Core.Path.{_≡_, ap, _∙_}
+use mathlib.Core.List.{List}
 use native.Mathlib.Nat.{mul-le-mul-right, mul-le-mul, mul-assoc, add-mul, mul-div-cancel}
 use native.Mathlib.Omega.{arith}
 use lib.ListN.{length, getD}
@@ -11,12 +11,7 @@ use Rattle.algebra.specs.Algebra.{reals}
 use Rattle.algebra.specs.Flat.{realParts}
 use Rattle.algebra.proofs.Flat.{tabulate-at}
 use Rattle.matrices.specs.Matrix.{Square, cell}
-
--- what stands at a place that is there does not depend on what stands for the others
-pub getD-any : {B : Type 0} (l : List B) (j : ℕ) (d e : B) → j < length l → getD l j d ≡ getD l j e
-getD-any [] j d e h = absurd (omega arith)
-getD-any (x ∷ l) zero d e h = refl
-getD-any (x ∷ l) (suc j) d e h = getD-any l j d e (omega arith)
+use Rattle.matrices.specs.Solve.{Strided}
 
 -- row r and column c are one of the n * n places
 pub place : (n r c : ℕ) → r < n → c < n → r * n + c < n * n
@@ -33,6 +28,17 @@ flat-place w m p h = omega (arith, mul-le-mul-right w h)
 -- the record at row r and column c, by the floats of a row
 pub flat-row : (w n r c : ℕ) → (r * n + c) * w ≡ r * (n * w) + c * w
 flat-row w n r c = add-mul (r * n) c w ∙ ap (λ (k : ℕ). k + c * w) (mul-assoc r n w)
+
+-- the record at row r and column c lies whole in the floats
+pub record Inside (w n r c : ℕ) (l : List Float) : Type 0 where
+  pub row : r * n ≤ 1024
+  pub there : (r * n + c) * w + w ≤ length l
+
+pub inside : (w n r c : ℕ) (l : List Float) → Square w n l → r < n → c < n → Inside w n r c l
+inside w n r c l s hr hc =
+    let z = s .small in
+    let h : r ≤ 32 = omega arith in
+    record { row = mul-le-mul h z; there = omega (arith, flat-place w (n * n) (r * n + c) (place n r c hr hc), s .full) }
 
 -- row r lies whole in the floats
 pub row-inside : (w n : ℕ) (l : List Float) (r : ℕ) → Square w n l → r < n → r * (n * w) + n * w ≤ length l
@@ -73,3 +79,15 @@ real-cell w n l r c s hr hc =
       tabulate-at (λ q. getD l (q * w) float.zero) (length l / w) 0 (r * n + c) float.zero (omega arith)
           ∙ ap (λ (q : ℕ). getD l (q * w) float.zero) (omega arith) ∙ ap (λ (q : ℕ). getD l q float.zero) e,
     )
+
+-- a vector lies as it lay in floats of the same length
+pub strided-keep : {w n stride base : ℕ} {l : List Float} (l′ : List Float) → length l′ ≡ length l → Strided w n stride base l → Strided w n stride base l′
+strided-keep l′ e s = record { some = s .some; inside = λ i h. omega (arith, s .inside i h, e) }
+
+-- a vector of n records, whole
+pub strided-whole : (w n : ℕ) (l : List Float) → length l ≡ n * w → Strided w n 1 0 l
+strided-whole w n l e = record { some = omega arith; inside = λ i h. let p : i * 1 + 0 ≡ i = omega arith in rw p (omega (arith, flat-place w n i h, e)) }
+
+-- column j of a square matrix
+pub strided-column : (w n j : ℕ) (l : List Float) → Square w n l → j < n → Strided w n n j l
+strided-column w n j l s h = record { some = omega arith; inside = λ i b. inside w n i j l s b h .there }

@@ -1,7 +1,7 @@
 -- Rows exchanged float by float are rows exchanged record by record. Assumes nothing.
 use Prim.Native.Nat.{ℕ, _+_, _-_, _*_, _/_, _≤_, _<_}
 use mathlib.Core.Path.{_≡_, refl, ap, sym, _∙_}
-use mathlib.Core.List.{List, map}
+use mathlib.Core.List.{List}
 use native.Mathlib.Nat.{mul-le-mul-right, mul-assoc, add-mul}
 use native.Mathlib.Decide.{decLt}
 use native.Mathlib.Omega.{arith}
@@ -11,11 +11,13 @@ use lib.Ieee.{Float}
 use Rattle.real.specs.Operations as float
 use Rattle.algebra.specs.Algebra.{Algebra, RealParts, reals, zeroOf}
 use Rattle.algebra.specs.Flat.{Layout, Lawful, Agrees, realParts, recordAt, recordCount, decode}
-use Rattle.algebra.specs.Loop.{upto}
 use Rattle.algebra.proofs.Flat.{decode-length, decode-size, decode-at, decode-is, decode-reals, record-same}
 use Rattle.algebra.proofs.Loop.{upto-reach}
 use Rattle.matrices.specs.Matrix.{Square, exchange, exchangeRows}
-use Rattle.matrices.specs.Lu.{Run, bring, pivotOf}
+use Rattle.matrices.specs.Lu.{going, bring, pivotOf, reduceRun, column}
+use Rattle.matrices.specs.Steps.{runAfter}
+use Rattle.matrices.specs.declared.Step.{Step}
+use Rattle.matrices.specs.declared.Step.the-variants.{Singular, Going}
 use Rattle.matrices.proofs.Lu.{pivot-row}
 use Rattle.matrices.proofs.Places.{row-place, row-inside, flat-row}
 use Rattle.matrices.proofs.Slopes.{mapRun, bring-carry, pivot-map}
@@ -175,3 +177,14 @@ module _ {R : Type 0} (L : Layout R) (W : Lawful L) (n : ℕ) (l : List Float) (
       rw (← e)
       (bring-carry (decode L) float.zero (zeroOf A) (n * L .width) n (pivotOf A n (decode L l) i) i l p swaps
       (λ ne. let b = pivot-row A n (decode L l) i h in decode-exchangeRows (zeroOf A) i (pivotOf A n (decode L l) i .row) h (b .1) (λ z. ne (sym z))))
+
+  -- a column of LU, from what the code has brought up
+  pub column-by : (A : Algebra R) → RealParts A → Agrees A L → (i : ℕ) (p : List ℕ) (swaps : ℕ) → i < n → (r : Step) (l′ : List Float) (p′ : List ℕ)
+      → runAfter r l′ p′ ≡ bring float.zero (n * L .width) (pivotOf reals n (realParts (L .width) l) i) i l p swaps
+      → column A n i (going (decode L l) p swaps) ≡ reduceRun A n i (runAfter r (decode L l′) p′)
+  unfolding column
+  column-by A K G i p swaps h r l′ p′ e = ap (reduceRun A n i) (sym (decode-bring A K G i p swaps h) ∙ ap (mapRun (decode L)) (sym e) ∙ after r)
+    where
+      after : (t : Step) → mapRun (decode L) (runAfter t l′ p′) ≡ runAfter t (decode L l′) p′
+      after (Singular c) = refl
+      after (Going s) = refl

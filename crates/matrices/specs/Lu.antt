@@ -1,5 +1,5 @@
 -- LU with row pivoting over any record: the steps of `LU::new` in linalg.rs. Definitions only.
-use Prim.Native.Nat.{ℕ, _+_, _*_}
+use Prim.Native.Nat.{ℕ, _+_}
 use mathlib.Core.Bool.{cond}
 use mathlib.Core.List.{List}
 use lib.Dec.{eqb}

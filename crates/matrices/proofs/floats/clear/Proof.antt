@@ -1,11 +1,11 @@
-use Rattle.matrices.proofs.Fill.{Filled, filled-more, filled-all}
-use mathlib.Core.Path.{_≡_, refl, sym, ap, _∙_}
-use Prim.Native.Nat.{ℕ, _-_, _+_}
+use mathlib.Core.Path.{_≡_, refl, sym, _∙_}
+use Prim.Native.Nat.{_-_}
 use denote.Ref.{now}
-use lib.ListN.{length, getD, replicate, length-set, length-replicate, getD-replicate}
+use lib.ListN.{length, replicate, length-set, length-replicate, getD-replicate}
 use lib.Ieee.{nan}
-use Rattle.real.specs.Operations.{zero}
 use native.Mathlib.Omega.{arith}
+use Rattle.matrices.proofs.Fill.{Filled, filled-more, filled-all}
+use Rattle.real.specs.Operations.{zero}
 use Rattle.matrices.proofs.floats.clear.Statement.{statement}
 use Rattle.matrices.proofs.floats.clear.Tie as tie
 

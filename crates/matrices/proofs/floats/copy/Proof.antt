@@ -1,10 +1,10 @@
-use Rattle.matrices.proofs.Fill.{Filled, filled-more, filled-all}
-use mathlib.Core.Path.{_≡_, refl, sym, ap, _∙_}
-use Prim.Native.Nat.{ℕ, _-_, _+_}
+use mathlib.Core.Path.{_≡_, refl}
+use Prim.Native.Nat.{_-_}
 use denote.Ref.{now}
 use lib.ListN.{length, getD, length-set}
 use lib.Ieee.{nan}
 use native.Mathlib.Omega.{arith}
+use Rattle.matrices.proofs.Fill.{Filled, filled-more, filled-all}
 use Rattle.matrices.proofs.floats.copy.Statement.{statement}
 use Rattle.matrices.proofs.floats.copy.Tie as tie
 

@@ -1,5 +1,5 @@
-use Rattle.matrices.specs.Matrix.{exchange}
 use borrow.Author.Needs.{needs}
+use Rattle.matrices.specs.Matrix.{exchange}
 use Rattle.matrices.proofs.order.exchange.Statement.{statement}
 use Rattle.matrices.proofs.order.exchange.Tie as tie
 

@@ -1,13 +1,13 @@
 use mathlib.Core.Path.{_≡_, refl, sym, ap, _∙_}
-use Prim.Native.Nat.{ℕ, _≤_, _-_, _+_}
+use Prim.Native.Nat.{_≤_, _-_, _+_}
 use denote.Ref.{now}
 use mathlib.Core.Bool.{Bool, not, _&&_}
-use lib.ListN.{length, getD, drop}
+use lib.ListN.{length, drop}
 use borrow.Author.Tests.{eq-eqb, ne-eqb}
-use Rattle.matrices.specs.Order.{absent}
-use Rattle.matrices.proofs.Rest.{rest-turn, rest-end}
 use borrow.Author.Needs.{needs}
 use native.Mathlib.Omega.{arith}
+use Rattle.matrices.specs.Order.{absent}
+use Rattle.matrices.proofs.Rest.{rest-turn, rest-end}
 use Rattle.matrices.proofs.order.is_absent.Statement.{statement}
 use Rattle.matrices.proofs.order.is_absent.Tie as tie
 

@@ -1,12 +1,12 @@
 use mathlib.Core.Path.{_≡_, refl, sym, ap, _∙_}
-use Prim.Native.Nat.{ℕ, _≤_, _-_, _+_}
+use Prim.Native.Nat.{_≤_, _-_, _+_}
 use denote.Ref.{now}
 use mathlib.Core.Bool.{Bool}
 use lib.ListN.{length, getD, drop}
-use Rattle.matrices.specs.Order.{differ, oddBelow, parity}
-use Rattle.matrices.proofs.Rest.{rest-turn, rest-end, differ-turn, differ-false}
 use borrow.Author.Needs.{needs}
 use native.Mathlib.Omega.{arith}
+use Rattle.matrices.specs.Order.{differ, oddBelow, parity}
+use Rattle.matrices.proofs.Rest.{rest-turn, rest-end, differ-turn, differ-false}
 use Rattle.matrices.proofs.order.is_odd.Statement.{statement}
 use Rattle.matrices.proofs.order.is_odd.Tie as tie
 

@@ -1,16 +1,15 @@
 use mathlib.Core.Path.{_≡_, refl, sym, ap, _∙_}
-use Prim.Native.Nat.{ℕ, _≤_, _-_, _+_}
+use Prim.Native.Nat.{ℕ, _≤_, _-_, _+_, _<_}
 use denote.Ref.{now}
-use mathlib.Core.Bool.{Bool, true, false, not, _&&_}
+use mathlib.Core.Bool.{Bool, true, false, _&&_}
 use lib.ListN.{length, getD, drop}
 use lib.Dec.{ltb}
 use borrow.Author.Tests.{lt-ltb, le-ltb, not-true, not-false}
-use Rattle.matrices.specs.Order.{absent, isOrder}
-use Rattle.matrices.proofs.Rest.{rest-turn, rest-end}
 use mathlib.Core.List.{List}
-use Prim.Native.Nat.{_<_}
 use borrow.Author.Needs.{needs}
 use native.Mathlib.Omega.{arith}
+use Rattle.matrices.specs.Order.{absent, isOrder}
+use Rattle.matrices.proofs.Rest.{rest-turn, rest-end}
 use Rattle.matrices.proofs.order.is_order.Statement.{statement}
 use Rattle.matrices.proofs.order.is_order.Tie as tie
 

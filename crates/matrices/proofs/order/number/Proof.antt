@@ -1,11 +1,11 @@
-use Rattle.matrices.proofs.Fill.{Filled, filled-more, filled-all}
-use mathlib.Core.Path.{_≡_, refl, sym, ap, _∙_}
-use Prim.Native.Nat.{ℕ, _-_, _+_}
+use mathlib.Core.Path.{_≡_, refl, sym, _∙_}
+use Prim.Native.Nat.{_-_}
 use denote.Ref.{now}
-use lib.ListN.{length, getD, length-set}
+use lib.ListN.{length, length-set}
+use native.Mathlib.Omega.{arith}
+use Rattle.matrices.proofs.Fill.{Filled, filled-more, filled-all}
 use Rattle.algebra.proofs.Flat.{tabulate-length, tabulate-at}
 use Rattle.matrices.specs.Lu.{numbers}
-use native.Mathlib.Omega.{arith}
 use Rattle.matrices.proofs.order.number.Statement.{statement}
 use Rattle.matrices.proofs.order.number.Tie as tie
 

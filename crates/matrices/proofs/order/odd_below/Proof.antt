@@ -1,13 +1,13 @@
 use mathlib.Core.Path.{_≡_, refl, sym, ap, _∙_}
-use Prim.Native.Nat.{ℕ, _≤_, _-_, _+_}
+use Prim.Native.Nat.{_≤_, _-_, _+_}
 use denote.Ref.{now}
 use mathlib.Core.Bool.{Bool}
 use lib.ListN.{length, getD, drop}
 use lib.Dec.{ltb}
-use Rattle.matrices.specs.Order.{differ, oddBelow}
-use Rattle.matrices.proofs.Rest.{rest-turn, rest-end, differ-turn, differ-false}
 use borrow.Author.Needs.{needs}
 use native.Mathlib.Omega.{arith}
+use Rattle.matrices.specs.Order.{differ, oddBelow}
+use Rattle.matrices.proofs.Rest.{rest-turn, rest-end, differ-turn, differ-false}
 use Rattle.matrices.proofs.order.odd_below.Statement.{statement}
 use Rattle.matrices.proofs.order.odd_below.Tie as tie
 

@@ -1,9 +1,8 @@
-use mathlib.Core.Path.{_≡_, refl, sym, ap, _∙_}
+use mathlib.Core.Path.{refl}
 use borrow.Author.Tests.{lt-ltb, le-ltb, eq-eqb, ne-eqb}
-use denote.Ref.{now}
-use Rattle.matrices.proofs.Places.{few}
 use borrow.Author.Needs.{needs}
 use native.Mathlib.Omega.{arith}
+use Rattle.matrices.proofs.Places.{few}
 use Rattle.matrices.proofs.refusal.inverse.Statement.{statement}
 use Rattle.matrices.proofs.refusal.inverse.Tie as tie
 

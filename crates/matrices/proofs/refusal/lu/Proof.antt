@@ -1,7 +1,7 @@
-use mathlib.Core.Path.{_≡_, refl}
+use mathlib.Core.Path.{refl}
 use borrow.Author.Tests.{lt-ltb, le-ltb, eq-eqb, ne-eqb}
-use Rattle.matrices.proofs.Places.{few}
 use native.Mathlib.Omega.{arith}
+use Rattle.matrices.proofs.Places.{few}
 use Rattle.matrices.proofs.refusal.lu.Statement.{statement}
 use Rattle.matrices.proofs.refusal.lu.Tie as tie
 

@@ -1,11 +1,10 @@
 use mathlib.Core.Path.{_≡_, refl, sym, ap, _∙_}
-use borrow.Author.Tests.{lt-ltb, le-ltb, eq-eqb, ne-eqb}
+use borrow.Author.Tests.{lt-ltb, le-ltb}
 use denote.Ref.{now}
-use Prim.Native.Nat.{ℕ}
-use mathlib.Core.Bool.{Bool, true, false, cond}
+use mathlib.Core.Bool.{Bool, cond}
+use borrow.Author.Needs.{needs}
 use Rattle.matrices.specs.Order.{differ, parity, isOdd}
 use Rattle.matrices.proofs.Odd.{odd-mod}
-use borrow.Author.Needs.{needs}
 use Rattle.matrices.proofs.refusal.wrong_swaps.Statement.{statement}
 use Rattle.matrices.proofs.refusal.wrong_swaps.Tie as tie
 

@@ -1,12 +1,11 @@
-use mathlib.Core.Path.{_≡_, refl, sym, ap, _∙_}
-use Prim.Native.Nat.{ℕ, _≤_, _-_, _+_}
-use denote.Ref.{now}
-use mathlib.Core.Bool.{Bool, true, false, cond}
+use mathlib.Core.Path.{_≡_, refl}
+use Prim.Native.Nat.{ℕ, _-_}
+use mathlib.Core.Bool.{Bool, cond}
 use lib.Ieee.{Float, lt}
+use borrow.Author.Needs.{needs}
 use Rattle.real.specs.Sign.{absOf}
 use Rattle.matrices.specs.Lu.{better}
 use Rattle.matrices.specs.declared.Pivot.{Pivot}
-use borrow.Author.Needs.{needs}
 use Rattle.matrices.proofs.rows.better_row.Statement.{statement}
 use Rattle.matrices.proofs.rows.better_row.Tie as tie
 

@@ -1,17 +1,14 @@
-use mathlib.Core.Path.{_≡_, refl, sym, ap, _∙_}
-use Prim.Native.Nat.{ℕ, _≤_, _<_, _+_, _*_}
+use mathlib.Core.Path.{sym, ap, _∙_}
+use Prim.Native.Nat.{_≤_, _<_, _+_, _*_}
 use denote.Ref.{now}
-use lib.Ieee.{Float}
-use lib.ListN.{length, length-set}
-use mathlib.Core.List.{List}
+use borrow.Author.Needs.{needs}
+use native.Mathlib.Omega.{arith}
 use Rattle.real.specs.Operations.{zero}
 use Rattle.algebra.specs.Algebra.{reals}
 use Rattle.matrices.specs.Lu.{bring, going}
 use Rattle.matrices.specs.declared.Pivot.{Pivot}
 use Rattle.matrices.proofs.Places.{few, row-inside}
 use Rattle.matrices.proofs.Lu.{pivot-row, bring-none, bring-stays, bring-moves}
-use borrow.Author.Needs.{needs}
-use native.Mathlib.Omega.{arith}
 use Rattle.matrices.proofs.rows.bring_pivot.Statement.{statement}
 use Rattle.matrices.proofs.rows.bring_pivot.Tie as tie
 

@@ -1,23 +1,21 @@
-use mathlib.Core.Path.{_≡_, refl, sym, ap, _∙_}
-use Prim.Native.Nat.{ℕ, _≤_, _-_, _+_}
-use denote.Ref.{now}
+use mathlib.Core.Path.{_≡_, refl}
+use Prim.Native.Nat.{ℕ, _≤_, _-_, _+_, _*_, _<_}
 use lib.ListN.{length, getD, set, length-set}
 use lib.Ieee.{Float, nan}
 use mathlib.Core.List.{List}
+use native.Mathlib.Omega.{arith}
 use Rattle.real.specs.Operations.{zero}
 use Rattle.algebra.specs.Loop.{upto}
 use Rattle.algebra.proofs.Loop.{upto-turn, upto-end}
-use Prim.Native.Nat.{_*_, _<_}
 use Rattle.matrices.specs.Matrix.{exchange, exchangeRows}
-use Rattle.matrices.proofs.Places.{getD-any}
-use native.Mathlib.Omega.{arith}
+use Rattle.algebra.proofs.Inside.{getD-inside}
 use Rattle.matrices.proofs.rows.exchange_rows.Statement.{statement}
 use Rattle.matrices.proofs.rows.exchange_rows.Tie as tie
 
 -- the code's three moves are an exchange
 exchanged : (l : List Float) (x y : ℕ) → x < length l → y < length l → set (set l x (getD l y nan)) y (getD l x nan) ≡ exchange zero x y l
 unfolding exchange
-exchanged l x y hx hy = λ i. set (set l x (getD-any l y nan zero hy i)) y (getD-any l x nan zero hx i)
+exchanged l x y hx hy = λ i. set (set l x (getD-inside l y nan zero hy i)) y (getD-inside l x nan zero hx i)
 
 abbrev Inv-loop : tie.InvT-loop
 Inv-loop k a₀ p q x y c₀ a c = (c ≤ k) × ((length a ≡ length a₀) × (upto c k (λ e. exchange zero (p * k + e) (q * k + e)) a ≡ exchangeRows zero k p q a₀))

@@ -1,35 +1,19 @@
 use mathlib.Core.Path.{_≡_, refl, sym, ap, _∙_}
-use Prim.Native.Nat.{ℕ, _≤_, _-_, _+_}
+use Prim.Native.Nat.{ℕ, _≤_, _-_, _+_, _*_, _<_}
 use denote.Ref.{now}
-use Prim.Native.Nat.{_*_, _<_}
 use lib.ListN.{length, getD}
 use lib.Ieee.{Float, nan}
-use Rattle.real.specs.Operations.{zero}
-use Rattle.algebra.specs.Algebra.{reals}
-use Rattle.algebra.specs.Flat.{realParts}
-use Rattle.algebra.specs.Loop.{upto}
-use Rattle.algebra.proofs.Loop.{upto-turn, upto-end}
-use Rattle.matrices.specs.Matrix.{cell, Square}
-use Rattle.matrices.specs.Lu.{better, pivotOf}
-use Rattle.matrices.proofs.Places.{getD-any, walk, real-cell}
-use Rattle.matrices.specs.declared.Pivot.{Pivot}
 use borrow.Author.Needs.{needs}
 use native.Mathlib.Omega.{arith}
-use mathlib.Core.Path.{_≡_, refl, sym, ap, _∙_}
-use Prim.Native.Nat.{ℕ, _≤_, _-_, _+_}
-use denote.Ref.{now}
-use Prim.Native.Nat.{_*_, _<_}
-use native.Mathlib.Nat.{mul-le-mul, mul-le-mul-right}
-use lib.ListN.{length, getD}
-use lib.Ieee.{Float, nan}
 use Rattle.real.specs.Operations.{zero}
 use Rattle.algebra.specs.Algebra.{reals}
 use Rattle.algebra.specs.Flat.{realParts}
 use Rattle.algebra.specs.Loop.{upto}
 use Rattle.algebra.proofs.Loop.{upto-turn, upto-end}
-use Rattle.matrices.specs.Matrix.{cell, Square}
+use Rattle.matrices.specs.Matrix.{cell}
 use Rattle.matrices.specs.Lu.{better, pivotOf}
-use Rattle.matrices.proofs.Places.{getD-any, Few, few, real-cell}
+use Rattle.matrices.proofs.Places.{walk, real-cell}
+use Rattle.algebra.proofs.Inside.{getD-inside}
 use Rattle.matrices.proofs.rows.find_pivot.Statement.{statement}
 use Rattle.matrices.proofs.rows.find_pivot.Tie as tie
 
@@ -90,7 +74,7 @@ loop-again c =
     let h = c .before .before .loop-test .taken in
     let r = real-cell (s .args .w) (s .args .n) (now (s .args .a)) (at .loop .k) (s .args .i) (s .pre .0) h (s .pre .1) in
     let j : at .loop .at < length (now (s .args .a)) = omega arith in
-    let e = getD-any (now (s .args .a)) (at .loop .at) nan zero j ∙ ap (λ (q : ℕ). getD (now (s .args .a)) q zero) (at .loop .inv .1 .1 .0) ∙ sym (r .1) in
+    let e = getD-inside (now (s .args .a)) (at .loop .at) nan zero j ∙ ap (λ (q : ℕ). getD (now (s .args .a)) q zero) (at .loop .inv .1 .1 .0) ∙ sym (r .1) in
     (omega arith, (omega arith, (omega arith, upto-turn (at .loop .k) (s .args .n) _ (at .loop .b) _ h (c .better-row .ensures ∙ ap (λ (x : Float). better x (at .loop .k) (at .loop .b)) e) (at .loop .inv .1 .1 .1))))
 
 returns : tie.Need-returns Inv-loop μ-loop

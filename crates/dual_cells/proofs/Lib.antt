@@ -1,0 +1,2 @@
+-- Laws of `Dual` records in lent floats.
+mod Cells

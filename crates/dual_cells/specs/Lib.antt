@@ -1,0 +1,2 @@
+-- What the contracts of `Dual` records in lent floats are written with. Definitions only.
+pub mod Records

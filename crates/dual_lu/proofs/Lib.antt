@@ -1,0 +1,8 @@
+-- Laws of matrices of `Dual` in lent floats, and what is proved of the entries beside their promises.
+mod Held
+-- no second answer, and no second content of a buffer
+pub mod OneAnswer
+-- demand 3
+pub mod NeverSteered
+-- document 01's values
+pub mod Values
