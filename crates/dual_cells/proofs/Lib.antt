@@ -1,2 +1,3 @@
 -- Laws of `Dual` records in lent floats.
-mod Cells
+-- places, for the crates that walk through them
+pub mod Cells

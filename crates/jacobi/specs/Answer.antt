@@ -1,0 +1,32 @@
+-- What the code's enums say: an answer in document 01's numbers, and where a sweep leaves a run. Definitions only.
+use Prim.Native.Nat.{ℕ, _+_}
+use mathlib.Core.List.{List}
+use lib.Ieee.{Float}
+use Rattle.algebra.specs.Outcome.{Outcome, value, refused}
+use Rattle.dual.specs.declared.Dual.{Dual}
+use Rattle.dual_cells.specs.Records.{records}
+use Rattle.rotations.specs.Buffers.{workOf}
+use Rattle.jacobi.specs.declared.JacobiAnswer.{JacobiAnswer}
+use Rattle.jacobi.specs.declared.JacobiAnswer.the-variants.{Done, Refused}
+use Rattle.jacobi.specs.declared.Step.{Step}
+use Rattle.jacobi.specs.declared.Step.the-variants.{Stopped, Swept}
+use Rattle.jacobi.specs.Sweeps.{Run, going, settled}
+
+-- document 01's reading of an answer: done with the sweep count, or the number that the call is refused by
+abbrev pub outcome : JacobiAnswer → Outcome ℕ
+outcome (Done sweeps) = value sweeps
+outcome (Refused number) = refused number
+
+-- a run in its buffers, after so many sweeps
+abbrev pub runOf : List Float → List Float → List Float → List Float → List Float → ℕ → ℕ → Run Dual
+runOf a v d zw bw rotations sweeps = going (workOf a v d zw rotations) (records bw) sweeps
+
+-- the run after sweep it_num, which came with so many rotations, with the buffers as they then are
+abbrev pub runAfter : Step → List Float → List Float → List Float → List Float → List Float → ℕ → ℕ → Run Dual
+runAfter Stopped a v d zw bw rotations it-num = settled (workOf a v d zw rotations) it-num
+runAfter (Swept more) a v d zw bw rotations it-num = runOf a v d zw bw more (it-num + 1)
+
+-- the rotations so far, where it swept
+abbrev pub rotationsOf : Step → ℕ
+rotationsOf Stopped = 0
+rotationsOf (Swept more) = more

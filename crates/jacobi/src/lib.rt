@@ -1,0 +1,116 @@
+// Eigenvalues and eigenvectors of a symmetric matrix of `Dual` records: `jacobi_eigenvalue` of linalg.rs.
+mod prepare;
+mod sort;
+mod sweeps;
+
+ghost use mathlib.Core.Path.{_≡_};
+ghost use Prim.Native.Nat.{ℕ, _*_, _<_, _≤_};
+ghost use lib.ListN.{length};
+ghost use Rattle.dual.specs.Rules.{dualAlgebra, dualLayout};
+ghost use Rattle.dual_cells.specs.Records.{records};
+ghost use Rattle.matrices.specs.Matrix.{Square};
+ghost use Rattle.jacobi.specs.Sort.{eigen, jacobiOf};
+ghost use Rattle.jacobi.specs.Entry.{jacobiRefusal, jacobiAnswered, jacobiLeft};
+ghost use Rattle.jacobi.specs.Answer.{outcome};
+
+// The sweeps that did not stop at the threshold, or the number that the call is refused by.
+pub enum JacobiAnswer {
+    Done { sweeps: usize },
+    Refused { number: u32 },
+}
+
+// How the sweeps ended: their count, the rotations, and whether the threshold was zero at last.
+pub(crate) struct Ended {
+    pub sweeps: usize,
+    pub rotations: usize,
+    pub stopped: bool,
+}
+
+// Where a sweep leaves the run: stopped at a zero threshold, or swept, with the rotations so far.
+pub(crate) enum Step {
+    Stopped,
+    Swept { rotations: usize },
+}
+
+// The number of the first refusal that applies, 0 where none does.
+fn refusal(n: usize, a: usize, limit: usize, values: usize, vectors: usize) -> u32
+    ensures { λ r. ⌜ r ≡ jacobiRefusal 2 n a limit values vectors ⌝ }
+{
+    if 32 < n {
+        return algebra::TOO_LARGE;
+    }
+    if n == 0 {
+        return algebra::EMPTY;
+    }
+    let full = n * n * 2;
+    if a != full {
+        return algebra::WRONG_LENGTH;
+    }
+    if values != n * 2 {
+        return algebra::WRONG_LENGTH;
+    }
+    if vectors != full {
+        return algebra::WRONG_LENGTH;
+    }
+    if 1000 < limit {
+        return algebra::LIMIT_TOO_LARGE;
+    }
+    0
+}
+
+// The whole run, with a copy of the matrix and the two sums in w, bw and zw.
+fn run(
+    n: usize,
+    a: &[f64],
+    limit: usize,
+    w: &mut [f64],
+    bw: &mut [f64],
+    zw: &mut [f64],
+    values: &mut [f64],
+    vectors: &mut [f64],
+) -> Ended
+    requires { ⌜ Square 2 n (now a) ⌝ }
+    requires { ⌜ (Square 2 n (now w)) × (Square 2 n (now vectors)) ⌝ }
+    requires { ⌜ (length (now bw) ≡ n * 2) × (length (now zw) ≡ n * 2) ⌝ }
+    requires { ⌜ length (now values) ≡ n * 2 ⌝ }
+    requires { ⌜ (0 < n) × (limit ≤ 1000) ⌝ }
+    ensures { λ r. ⌜ eigen (records (now (values .exit))) (records (now (vectors .exit))) (r .sweeps) (r .rotations) (r .stopped) ≡ jacobiOf dualAlgebra n limit (records (now (a .entry))) ⌝ }
+{
+    prepare::prepare(n, a, w, bw, zw, values, vectors);
+    let e = sweeps::sweeps(n, w, vectors, values, zw, bw, limit);
+    sort::sort(n, values, vectors);
+    e
+}
+
+// Eigenvalues and eigenvectors (a column each) of the matrix a, of which only the diagonal and the part above it are read; in order of the values' real parts.
+// The run makes at most `limit` sweeps. A refusal writes nothing.
+pub fn jacobi_eigenvalue(
+    n: usize,
+    a: &[f64],
+    limit: usize,
+    values: &mut [f64],
+    vectors: &mut [f64],
+) -> JacobiAnswer
+    ensures { λ r. ⌜ jacobiAnswered (outcome r) (now (values .exit)) (now (vectors .exit)) ≡ jacobiLeft dualAlgebra dualLayout n (now (a .entry)) limit (now (values .entry)) (now (vectors .entry)) ⌝ }
+{
+    let number = refusal(n, a.len(), limit, values.len(), vectors.len());
+    if number != 0 {
+        return JacobiAnswer::Refused { number };
+    }
+    let full = n * n * 2;
+    let row = n * 2;
+    let mut w = [0.0f64; 2048];
+    let mut bw = [0.0f64; 64];
+    let mut zw = [0.0f64; 64];
+    let e = run(
+        n,
+        a,
+        limit,
+        &mut w[..full],
+        &mut bw[..row],
+        &mut zw[..row],
+        values,
+        vectors,
+    );
+    JacobiAnswer::Done { sweeps: e.sweeps }
+}

@@ -1,0 +1,49 @@
+use mathlib.Core.Path.{ap, _∙_}
+use Rattle.real.specs.Operations.{one}
+use Rattle.algebra.specs.Algebra.{addFloat}
+use Rattle.derivatives.specs.Apply.{recipOf}
+use Rattle.dual.specs.Rules.{dualMul, dualDiv, dualAlgebra}
+use Rattle.dual.specs.declared.Dual.{Dual}
+use Rattle.rotations.specs.Rotation.{angle, angleBy}
+use borrow.Author.Needs.{needs}
+use Rattle.rotations.proofs.choose.angle_by.Statement.{statement}
+use Rattle.rotations.proofs.choose.angle_by.Tie as tie
+
+hypotenuse-requires : tie.Need-hypotenuse-requires
+hypotenuse-requires c κs = search needs
+
+recip-requires : tie.Need-recip-requires
+recip-requires c κs = search needs
+
+mul-requires : tie.Need-mul-requires
+mul-requires c κs = search needs
+
+add-float-requires : tie.Need-add-float-requires
+add-float-requires c κs = search needs
+
+div-requires : tie.Need-div-requires
+div-requires c κs = search needs
+
+mul-requires-2 : tie.Need-mul-requires-2
+mul-requires-2 c κs = search needs
+
+returns : tie.Need-returns
+unfolding angleBy
+returns c =
+    let cosine = c .before .before .before .before .recip .ensures ∙ ap (recipOf dualAlgebra) (c .before .before .before .before .before .hypotenuse .ensures) in
+    let sine = c .before .before .before .mul .ensures ∙ ap (dualMul (c .before .before .before .before .before .before .args .t)) cosine in
+    let more = c .before .before .add-float .ensures ∙ ap (λ (y : Dual). addFloat dualAlgebra y one) cosine in
+    let tau = c .before .div .ensures ∙ (λ i. dualDiv (sine i) (more i)) in
+    λ i. angle (sine i) (tau i) (c .mul2 .ensures i)
+
+pub angle-by-spec : {M : Type 1} → statement M
+angle-by-spec =
+    tie.close
+    (tie.spec
+    hypotenuse-requires
+    recip-requires
+    mul-requires
+    add-float-requires
+    div-requires
+    mul-requires-2
+    returns)
