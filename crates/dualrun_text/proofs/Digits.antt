@@ -82,6 +82,16 @@ module _ (base : ℕ) (text : List ℕ) (most p : ℕ) where
       let i = scanned .passed in
       ended v k (scanned .spelled) (omega arith)
 
+-- a digit more or none
+more-or-none : (d r : ℕ) (b : Bool) → r ≤ d → cond b (suc r) 0 ≤ suc d
+more-or-none d r true h = omega arith
+more-or-none d r false h = omega arith
+
+pub digit-run-most : (base : ℕ) (text : List ℕ) (d p : ℕ) → digitRun base d text p ≤ d
+unfolding digitRun
+digit-run-most base text zero p = omega arith
+digit-run-most base text (suc d) p = more-or-none d (digitRun base d text (p + 1)) (isDigit base (byteAt text p)) (digit-run-most base text d (p + 1))
+
 -- ---- the value of a byte, by where it lies
 pub value-under-digits : (b : ℕ) → b < 48 → 16 ≡ digitValue b
 unfolding digitValue

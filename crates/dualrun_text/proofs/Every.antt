@@ -1,7 +1,7 @@
 -- A test of every number below a bound, as a loop with an early answer makes it. Assumes nothing.
 use Prim.Native.Nat.{ℕ, zero, suc, _<_, _≤_}
 use mathlib.Core.Path.{_≡_, refl, sym, ap, _∙_, subst}
-use mathlib.Core.Bool.{Bool, true, false, _&&_}
+use mathlib.Core.Bool.{Bool, true, false, _&&_, true≢false}
 use native.Mathlib.Omega.{arith}
 use lib.Dec.{ltb}
 use borrow.Author.Tests.{ltb-true, ltb-false}
@@ -29,3 +29,11 @@ module _ (p : ℕ → Bool) where
   unfolding every
   every-false zero k lt e = absurd (omega arith)
   every-false (suc n) k lt e = at n k (ltb k n) lt refl (λ h. every-false n k h e) e
+
+  -- and back: what holds of every number below n holds of each
+  pub every-at : (n k : ℕ) → every p n ≡ true → k < n → p k ≡ true
+  every-at n k e h = by (p k) refl
+    where
+      by : (b : Bool) → p k ≡ b → p k ≡ true
+      by true t = t
+      by false t = absurd (true≢false (sym e ∙ every-false n k h t))

@@ -2,20 +2,23 @@
 use Prim.Native.Nat.{ℕ, zero, suc, _+_, _-_, _*_, _/_, _%_, _^_, _<_, _≤_}
 use mathlib.Core.Path.{_≡_, refl, sym, ap, _∙_, subst}
 use mathlib.Core.Bool.{Bool, true, false, cond, not, _&&_, true≢false}
-use mathlib.Core.List.{List, [], _∷_, _++_}
+use mathlib.Core.List.{List, [], _∷_, _++_, append-assoc}
 use native.Mathlib.Nat.{pow-suc}
 use native.Mathlib.Omega.{arith}
 use lib.Dec.{T, ltb, eqb, lit<}
 use lib.ListN.{length, getD, take, drop, length-drop}
-use lib.Seq.{take-suc, getD-drop}
+use lib.Seq.{take-suc, take-add, take-all, drop-drop, getD-drop}
 use lib.Ieee.{Float, binary64, ofBits, toBits, nanBits, isNan}
 use lib.Ieee.Bits.{toBits-ofBits, nanBits-is}
-use borrow.Author.Tests.{ltb-true, ltb-false, lt-ltb, le-ltb, eqb-true}
+use borrow.Author.Tests.{ltb-true, ltb-false, lt-ltb, le-ltb, eqb-true, eq-eqb, ne-eqb}
 use Rattle.io.specs.Digits.{glyph, digits}
+use Rattle.real.specs.Operations as float
+use Rattle.algebra.proofs.Flat.{tabulate-at}
 use Rattle.real.proofs.Nan.{above-is-nan, rest-is-not}
-use Rattle.dualrun_text.specs.Digits.{byteAt, isDigit, digitValue, digitRun, numberAt}
-use Rattle.dualrun_text.specs.Body.{separatorOf, isWord, wordOf, floatAt}
-use Rattle.dualrun_text.specs.Lines.{wordText}
+use Rattle.dualrun_text.specs.Digits.{byteAt, every, isDigit, digitValue, digitRun, numberAt}
+use Rattle.dualrun_text.specs.Body.{separatorOf, isWord, wordOf, isBody, floatAt, floatsFrom}
+use Rattle.dualrun_text.specs.Lines.{wordText, recordLine, recordLines}
+use Rattle.dualrun_text.proofs.Every.{every-at}
 use Rattle.dualrun_text.proofs.Digits.{value-under-digits, value-digit, value-between, value-letter, value-over-letters}
 
 -- ---- a digit, written
@@ -116,3 +119,77 @@ pub read-back-nan : (text : List ℕ) (start i : ℕ) → 0x7ff0_0000_0000_0000 
     → wordText (floatAt text start i) ≡ 55 ∷ 102 ∷ 102 ∷ 56 ∷ 48 ∷ 48 ∷ 48 ∷ 48 ∷ 48 ∷ 48 ∷ 48 ∷ 48 ∷ 48 ∷ 48 ∷ 48 ∷ 48 ∷ []
 unfolding wordText toBits
 read-back-nan text start i h = ap wordText (above-is-nan (wordOf text start i) h)
+
+-- ---- a matrix, read and printed
+module _ (text : List ℕ) (start : ℕ) where
+  -- word number i of the text, with the byte after it
+  piece : ℕ → List ℕ
+  piece i = take 17 (drop (start + 17 * i) text)
+
+  second-test : (a b : Bool) → (a && b) ≡ true → b ≡ true
+  second-test true b e = e
+  second-test false b e = absurd (true≢false (sym e))
+
+  piece-is : (i : ℕ) → isWord text start i ≡ true → start + 17 * i + 17 ≤ length text → wordOf text start i % 0x8000_0000_0000_0000 ≤ 0x7ff0_0000_0000_0000
+      → wordText (floatAt text start i) ++ (separatorOf i ∷ []) ≡ piece i
+  unfolding isWord piece
+  piece-is i good h w =
+      let at = start + 17 * i in
+      let inside : 16 < length (drop at text) = simp length-drop (omega arith) in
+      let mark : byteAt text (at + 16) ≡ separatorOf i = eqb-true (byteAt text (at + 16)) (separatorOf i) (second-test (eqb (digitRun 16 16 text at) 16) (eqb (byteAt text (at + 16)) (separatorOf i)) good) in
+      ap (λ (l : List ℕ). l ++ (separatorOf i ∷ [])) (read-back text start i good (omega arith) w)
+      ∙ ap (λ (b : ℕ). take 16 (drop at text) ++ (b ∷ [])) (sym mark ∙ sym (getD-drop at text 16 0))
+      ∙ sym (take-suc (drop at text) 16 0 inside)
+
+  -- the text from start on, up to word number i, and that word more
+  word-more : (i : ℕ) → take (17 * i) (drop start text) ++ piece i ≡ take (17 * (i + 1)) (drop start text)
+  unfolding piece
+  word-more i =
+      ap (λ (l : List ℕ). take (17 * i) (drop start text) ++ take 17 l) (sym (drop-drop (17 * i) start text))
+      ∙ sym (take-add (17 * i) 17 (drop start text))
+      ∙ ap (λ (k : ℕ). take k (drop start text)) (let e : 17 * i + 17 ≡ 17 * (i + 1) = omega arith in e)
+
+  first-mark : (k : ℕ) → separatorOf (2 * k) ≡ 32
+  first-mark k = rw (eq-eqb (2 * k % 2) 0 (omega arith))
+
+  second-mark : (k : ℕ) → separatorOf (2 * k + 1) ≡ 10
+  second-mark k = rw (ne-eqb ((2 * k + 1) % 2) 0 (λ e. omega arith))
+
+  module _ (count : ℕ) (good : isBody text start (2 * count) ≡ true) (plain : (i : ℕ) → i < 2 * count → wordOf text start i % 0x8000_0000_0000_0000 ≤ 0x7ff0_0000_0000_0000) where
+    size : length text ≡ start + 17 * (2 * count)
+    unfolding isBody
+    size = eqb-true (length text) (start + 17 * (2 * count)) (first-test (eqb (length text) (start + 17 * (2 * count))) (every (isWord text start) (2 * count)) good)
+
+    word-good : (i : ℕ) → i < 2 * count → isWord text start i ≡ true
+    unfolding isBody
+    word-good i h = every-at (isWord text start) (2 * count) i (second-test (eqb (length text) (start + 17 * (2 * count))) (every (isWord text start) (2 * count)) good) h
+
+    at-word : (i : ℕ) → i < 2 * count → wordText (getD (floatsFrom text start (2 * count)) i float.zero) ++ (separatorOf i ∷ []) ≡ piece i
+    unfolding floatsFrom
+    at-word i h =
+        ap (λ (x : Float). wordText x ++ (separatorOf i ∷ [])) (tabulate-at (floatAt text start) (2 * count) 0 i float.zero h ∙ ap (floatAt text start) (let e : 0 + i ≡ i = omega arith in e))
+        ∙ piece-is i (word-good i h) (let s = size in omega arith) (plain i h)
+
+    -- the first k lines
+    lines-back : (k : ℕ) → k ≤ count → recordLines (floatsFrom text start (2 * count)) k ≡ take (17 * (2 * k)) (drop start text)
+    unfolding recordLines recordLine
+    lines-back zero h = refl
+    lines-back (suc k) h =
+        let l = floatsFrom text start (2 * count) in
+        let x = wordText (getD l (2 * k) float.zero) in
+        let y = wordText (getD l (2 * k + 1) float.zero) in
+        let a = at-word (2 * k) (omega arith) in
+        let b = at-word (2 * k + 1) (omega arith) in
+        let so-far = take (17 * (2 * k)) (drop start text) in
+        ap (λ (m : List ℕ). m ++ (x ++ (32 ∷ []) ++ y ++ (10 ∷ []))) (lines-back k (omega arith))
+        ∙ ap (λ (m : List ℕ). so-far ++ m) (append-assoc (x ++ (32 ∷ [])) y (10 ∷ []))
+        ∙ sym (append-assoc so-far (x ++ (32 ∷ [])) (y ++ (10 ∷ [])))
+        ∙ ap (λ (m : List ℕ). so-far ++ m ++ (y ++ (10 ∷ []))) (ap (λ (z : ℕ). x ++ (z ∷ [])) (sym (first-mark k)) ∙ a)
+        ∙ ap (λ (m : List ℕ). so-far ++ piece (2 * k) ++ m) (ap (λ (z : ℕ). y ++ (z ∷ [])) (sym (second-mark k)) ∙ b)
+        ∙ ap (λ (m : List ℕ). m ++ piece (2 * k + 1)) (word-more (2 * k))
+        ∙ word-more (2 * k + 1)
+        ∙ ap (λ (z : ℕ). take (17 * z) (drop start text)) (let e : 2 * k + 1 + 1 ≡ 2 * suc k = omega arith in e)
+
+    -- good lines without a NaN pattern, read and printed, are those lines
+    pub matrix-back : recordLines (floatsFrom text start (2 * count)) count ≡ drop start text
+    matrix-back = lines-back count (omega arith) ∙ take-all (17 * (2 * count)) (drop start text) (let s = size in simp length-drop (omega arith))

@@ -4,3 +4,4 @@ pub mod Request
 pub mod Body
 pub mod Page
 pub mod Lines
+pub mod Output
