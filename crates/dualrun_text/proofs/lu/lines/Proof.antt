@@ -1,0 +1,70 @@
+-- `dualrun_text::lu::lines` meets its contract. Assumes nothing.
+use Prim.Native.Nat.{ℕ, _+_, _-_, _*_, _^_, _≤_, _<_}
+use mathlib.Core.Path.{_≡_, refl, sym, ap, _∙_}
+use denote.Ref.{now}
+use native.Mathlib.Omega.{arith}
+use lib.ListN.{length}
+use Rattle.dualrun_text.specs.Page.{page, written}
+use Rattle.dualrun_text.specs.Lines.{pairLine, orderLine, recordLines}
+use Rattle.dualrun_text.proofs.Page.{three-parts}
+use Rattle.dualrun_text.proofs.Commands.{square, lu-refused, lu-done}
+use borrow.Author.Needs.{needs}
+use Rattle.dualrun_text.proofs.lu.lines.Statement.{statement}
+use Rattle.dualrun_text.proofs.lu.lines.Tie as tie
+
+enum-known-answer : tie.Need-enum-known-answer
+enum-known-answer c = search needs
+
+enum-told : tie.Need-enum-told
+enum-told c = search needs
+
+refusal-requires : tie.Need-refusal-requires
+refusal-requires c κs = search needs
+
+same-length : tie.Need-same-length
+same-length c = search needs
+
+returns : tie.Need-returns
+returns c =
+    let s = c .before .before .before .before .before .before .before .before .before .args in
+    c .before .before .refusal .ensures ∙ ap (written (page (now (s .out)) 0)) (lu-refused (s .n) (now (s .factors)) (now (s .order)) (s .answer) _ _ (c .before .before .before .before .enum-told .given .1))
+
+pair-requires : tie.Need-pair-requires
+pair-requires c κs = search needs
+
+order-requires : tie.Need-order-requires
+order-requires c κs = search needs
+
+mul-records : tie.Need-mul-records
+mul-records c = let h = square (c .before .before .before .before .before .before .before .before .before .before .before .before .before .before .before .args .n) (c .before .before .before .before .before .before .before .before .before .before .before .before .before .before .before .pre .0) in search needs
+
+records-requires : tie.Need-records-requires
+records-requires c κs = let h = c .before .before .before .before .before .before .before .before .before .before .before .before .before .before .before .pre .1 in omega arith
+
+same-length-2 : tie.Need-same-length-2
+same-length-2 c = search needs
+
+returns-2 : tie.Need-returns-2
+returns-2 c =
+    let s = c .before .before .before .before .before .before .before .before .before .before .before .before .before .before .before .before .before .before .args in
+    let p = page (now (s .out)) 0 in
+    let l = now (s .order) in
+    let told = c .before .before .before .before .before .before .before .before .before .before .before .before .before .answer .given in
+    three-parts p (pairLine 0 _) (orderLine l (length l)) (recordLines (now (s .factors)) (s .n * s .n)) (c .before .before .before .before .before .before .before .before .before .before .pair .ensures) (c .before .before .before .before .before .before .order .ensures) (c .before .before .records .ensures)
+    ∙ ap (written p) (lu-done (s .n) (now (s .factors)) l (s .answer) _ (told .1) (c .before .before .before .before .before .before .before .before .before .before .before .before .before .before .before .before .before .before .pre .2))
+
+pub lines-spec : {M : Type 1} → statement M
+lines-spec =
+    tie.close
+    (tie.spec
+    enum-known-answer
+    enum-told
+    refusal-requires
+    same-length
+    returns
+    pair-requires
+    order-requires
+    mul-records
+    records-requires
+    same-length-2
+    returns-2)

@@ -1,0 +1,37 @@
+-- `dualrun_text::write::pair` meets its contract. Assumes nothing.
+use Prim.Native.Nat.{ℕ, _+_, _-_, _*_, _^_, _≤_, _<_}
+use mathlib.Core.Path.{_≡_, refl, sym, ap, _∙_}
+use mathlib.Core.List.{[], _∷_}
+use denote.Ref.{now}
+use Rattle.dualrun_text.specs.Page.{page}
+use Rattle.dualrun_text.specs.Lines.{decimalText, pairLine}
+use Rattle.dualrun_text.proofs.Page.{four-parts}
+use borrow.Author.Needs.{needs}
+use Rattle.dualrun_text.proofs.write.pair.Statement.{statement}
+use Rattle.dualrun_text.proofs.write.pair.Tie as tie
+
+number-requires : tie.Need-number-requires
+number-requires c κs = search needs
+
+byte-requires : tie.Need-byte-requires
+byte-requires c κs = search needs
+
+number-requires-2 : tie.Need-number-requires-2
+number-requires-2 c κs = search needs
+
+byte-requires-2 : tie.Need-byte-requires-2
+byte-requires-2 c κs = search needs
+
+same-length : tie.Need-same-length
+same-length c = search needs
+
+returns : tie.Need-returns
+unfolding pairLine
+returns c =
+    let s = c .before .before .before .before .before .before .before .before .before .before .before .before .before .before .before .before .before .args in
+    four-parts (page (now (s .out)) (s .at)) (decimalText (s .a)) (32 ∷ []) (decimalText (s .b)) (10 ∷ []) (c .before .before .before .before .before .before .before .before .before .before .before .before .before .before .number .ensures) (c .before .before .before .before .before .before .before .before .before .before .byte .ensures) (c .before .before .before .before .before .before .number2 .ensures) (c .before .before .byte2 .ensures)
+
+pub pair-spec : {M : Type 1} → statement M
+pair-spec =
+    tie.close
+    (tie.spec number-requires byte-requires number-requires-2 byte-requires-2 same-length returns)

@@ -1,0 +1,37 @@
+-- `dualrun_text::write::record` meets its contract. Assumes nothing.
+use Prim.Native.Nat.{ℕ, _+_, _-_, _*_, _^_, _≤_, _<_}
+use mathlib.Core.Path.{_≡_, refl, sym, ap, _∙_}
+use mathlib.Core.List.{[], _∷_}
+use denote.Ref.{now}
+use Rattle.dualrun_text.specs.Page.{page}
+use Rattle.dualrun_text.specs.Lines.{wordText, recordLine}
+use Rattle.dualrun_text.proofs.Page.{four-parts}
+use borrow.Author.Needs.{needs}
+use Rattle.dualrun_text.proofs.write.record.Statement.{statement}
+use Rattle.dualrun_text.proofs.write.record.Tie as tie
+
+word-requires : tie.Need-word-requires
+word-requires c κs = search needs
+
+byte-requires : tie.Need-byte-requires
+byte-requires c κs = search needs
+
+word-requires-2 : tie.Need-word-requires-2
+word-requires-2 c κs = search needs
+
+byte-requires-2 : tie.Need-byte-requires-2
+byte-requires-2 c κs = search needs
+
+same-length : tie.Need-same-length
+same-length c = search needs
+
+returns : tie.Need-returns
+unfolding recordLine
+returns c =
+    let s = c .before .before .before .before .before .before .before .before .before .before .before .before .before .before .before .before .before .args in
+    four-parts (page (now (s .out)) (s .at)) (wordText (s .re)) (32 ∷ []) (wordText (s .eps)) (10 ∷ []) (c .before .before .before .before .before .before .before .before .before .before .before .before .before .before .word .ensures) (c .before .before .before .before .before .before .before .before .before .before .byte .ensures) (c .before .before .before .before .before .before .word2 .ensures) (c .before .before .byte2 .ensures)
+
+pub record-spec : {M : Type 1} → statement M
+record-spec =
+    tie.close
+    (tie.spec word-requires byte-requires word-requires-2 byte-requires-2 same-length returns)

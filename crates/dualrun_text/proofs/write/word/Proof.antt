@@ -1,0 +1,50 @@
+-- `dualrun_text::write::word` meets its contract. Assumes nothing.
+use Prim.Native.Nat.{ℕ, _+_, _-_, _*_, _^_, _≤_, _<_}
+use mathlib.Core.Path.{_≡_, refl, sym, ap, _∙_}
+use denote.Ref.{now}
+use Rattle.io.specs.Digits.{digits}
+use Rattle.dualrun_text.specs.Page.{page, written}
+use Rattle.dualrun_text.specs.Lines.{wordText}
+use Rattle.dualrun_text.proofs.Lines.{word-digits}
+use borrow.Author.Needs.{needs}
+use Rattle.dualrun_text.proofs.write.word.Statement.{statement}
+use Rattle.dualrun_text.proofs.write.word.Tie as tie
+
+word-of-float-requires : tie.Need-word-of-float-requires
+word-of-float-requires c κs = search needs
+
+hex-requires : tie.Need-hex-requires
+hex-requires c κs = search needs
+
+array-share-prefix-digits : tie.Need-array-share-prefix-digits
+array-share-prefix-digits c = search needs
+
+slice-aggregate-bytes : tie.Need-slice-aggregate-bytes
+slice-aggregate-bytes c = search needs
+
+bytes-requires : tie.Need-bytes-requires
+bytes-requires c κs = search needs
+
+same-length : tie.Need-same-length
+same-length c = search needs
+
+returns : tie.Need-returns
+unfolding wordText
+returns c =
+    let s = c .before .before .before .before .before .before .before .before .before .args in
+    let h = c .before .before .before .before .before .hex in
+    let w = c .before .before .before .before .before .before .before .word-of-float in
+    c .before .before .bytes .ensures
+    ∙ ap (written (page (now (s .out)) (s .at))) (h .ensures .1 .1 ∙ ap (λ (x : ℕ). digits 16 x (w .result)) (word-digits _ _ (search needs) (h .ensures .1 .0)) ∙ ap (digits 16 16) (w .ensures))
+
+pub word-spec : {M : Type 1} → statement M
+word-spec =
+    tie.close
+    (tie.spec
+    word-of-float-requires
+    hex-requires
+    array-share-prefix-digits
+    slice-aggregate-bytes
+    bytes-requires
+    same-length
+    returns)

@@ -1,0 +1,87 @@
+// `eig N S`: the matrix read, its eigenvalues and vectors printed.
+use super::read;
+use super::write;
+use jacobi::JacobiAnswer;
+ghost use mathlib.Core.Path.{_≡_};
+ghost use Prim.Native.Nat.{_*_, _<_, _≤_};
+ghost use lib.ListN.{length};
+ghost use Rattle.algebra.specs.Outcome.{numberOf};
+ghost use Rattle.jacobi.specs.Answer.{outcome};
+ghost use Rattle.dualrun_text.specs.Page.{page, written};
+ghost use Rattle.dualrun_text.specs.Lines.{pairLine};
+ghost use Rattle.dualrun_text.specs.Output.{eigLines, eigOfLines, eigOutput};
+
+// The line of a refusal: its number and 0.
+fn refusal(out: &mut [u8], answer: JacobiAnswer) -> usize
+    ensures { λ r. ⌜ page (now (out .exit)) r ≡ written (page (now (out .entry)) 0) (pairLine (numberOf (outcome answer)) 0) ⌝ }
+{
+    match answer {
+        JacobiAnswer::Refused { number } => write::pair(out, 0, number as usize, 0),
+        JacobiAnswer::Done { sweeps: _ } => write::pair(out, 0, 0, 0),
+    }
+}
+
+// What is printed of an answer: the sweeps, the eigenvalues and the vectors, or the line of a refusal.
+fn lines(out: &mut [u8], n: usize, answer: JacobiAnswer, values: &[f64], vectors: &[f64]) -> usize
+    requires { ⌜ (n ≤ 32) × (length (now values) ≡ n * 2) × (length (now vectors) ≡ n * n * 2) ⌝ }
+    ensures { λ r. ⌜ page (now (out .exit)) r ≡ written (page (now (out .entry)) 0) (eigLines n (outcome answer) (now (values .entry)) (now (vectors .entry))) ⌝ }
+{
+    let JacobiAnswer::Done { sweeps } = answer else {
+        return refusal(out, answer);
+    };
+    let first = write::pair(out, 0, 0, sweeps);
+    let second = write::records(out, first, values, n);
+    write::records(out, second, vectors, n * n)
+}
+
+// The matrix read from its lines, its eigenvalues and vectors found and printed.
+fn of_lines(
+    text: &[u8],
+    out: &mut [u8],
+    n: usize,
+    limit: usize,
+    start: usize,
+    matrix: &mut [f64],
+    values: &mut [f64],
+    vectors: &mut [f64],
+) -> usize
+    requires { ⌜ (start < 32) × (n ≤ 32) × (length (now matrix) ≡ n * n * 2) × (length (now values) ≡ n * 2) × (length (now vectors) ≡ n * n * 2) ⌝ }
+    ensures { λ r. ⌜ page (now (out .exit)) r ≡ written (page (now (out .entry)) 0) (eigOfLines (now (text .entry)) n limit start (now (values .entry)) (now (vectors .entry))) ⌝ }
+{
+    if !read::body(text, start, matrix) {
+        return write::bytes(out, 0, b"9\n");
+    }
+    let answer = jacobi::jacobi_eigenvalue(n, matrix, limit, values, vectors);
+    lines(out, n, answer, values, vectors)
+}
+
+// The command: 1, 3 and 4 are decided from the first line.
+pub(crate) fn command(text: &[u8], out: &mut [u8], n: usize, limit: usize, start: usize) -> usize
+    requires { ⌜ start < 32 ⌝ }
+    ensures { λ r. ⌜ page (now (out .exit)) r ≡ written (page (now (out .entry)) 0) (eigOutput (now (text .entry)) n limit start) ⌝ }
+{
+    if 32 < n {
+        return write::pair(out, 0, 1, 0);
+    }
+    if n == 0 {
+        return write::pair(out, 0, 3, 0);
+    }
+    if 1000 < limit {
+        return write::pair(out, 0, 4, 0);
+    }
+    let full = n * n * 2;
+    let row = n * 2;
+    let mut matrix = [0.0f64; 2048];
+    let mut values = [0.0f64; 64];
+    let mut vectors = [0.0f64; 2048];
+    of_lines(
+        text,
+        out,
+        n,
+        limit,
+        start,
+        &mut matrix[..full],
+        &mut values[..row],
+        &mut vectors[..full],
+    )
+}

@@ -1,0 +1,56 @@
+// The runner as a function of texts: what `dualrun` reads in, what it writes out (document 01, the section on the runner).
+mod eig;
+mod lu;
+mod read;
+mod write;
+
+ghost use mathlib.Core.Path.{_≡_};
+ghost use Prim.Native.Nat.{_≤_};
+ghost use lib.ListN.{length, take};
+ghost use Rattle.dualrun_text.specs.Page.{page, written};
+ghost use Rattle.dualrun_text.specs.Output.{outputOf};
+
+// Digits read from a place on: what they spell, and how many there are.
+struct Scan {
+    value: u64,
+    digits: usize,
+}
+
+// One to nine decimal digits, and the place after them.
+enum Number {
+    Is { value: usize, end: usize },
+    Not,
+}
+
+// What the first line asks, and where the matrix starts.
+enum Request {
+    Lu {
+        n: usize,
+        start: usize,
+    },
+    Eig {
+        n: usize,
+        limit: usize,
+        start: usize,
+    },
+    Unreadable,
+}
+
+// A word of the matrix.
+enum Word {
+    Is(u64),
+    Not,
+}
+
+// What the runner writes for a text, put at the start of a lent buffer, as far as it fits: the number of bytes put there. The rest of the buffer stays
+// as it was. No text gives more than 65,536 bytes, and none gives another output than its first 65,536 bytes do.
+pub fn run(text: &[u8], out: &mut [u8]) -> usize
+    ensures { λ r. ⌜ page (now (out .exit)) r ≡ written (page (now (out .entry)) 0) (outputOf (now (text .entry))) ⌝ }
+    ensures { λ r. ⌜ (r ≤ length (now (out .exit))) × (r ≡ length (take r (now (out .exit)))) ⌝ }
+{
+    match read::request(text) {
+        Request::Lu { n, start } => lu::command(text, out, n, start),
+        Request::Eig { n, limit, start } => eig::command(text, out, n, limit, start),
+        Request::Unreadable => write::bytes(out, 0, b"9\n"),
+    }
+}
