@@ -5,4 +5,3 @@ pub mod RealParts
 pub mod Flat
 -- this crate's promises leave one answer each, and its values of document 01
 mod OneAnswer
-mod Values

@@ -4,5 +4,3 @@ mod Held
 pub mod OneAnswer
 -- demand 3
 pub mod NeverSteered
--- document 01's values
-pub mod Values

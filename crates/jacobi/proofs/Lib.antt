@@ -10,5 +10,3 @@ mod Calls
 pub mod OneAnswer
 -- demand 3, and the part below the diagonal
 pub mod NeverSteered
--- document 01's values
-pub mod Values

@@ -18,4 +18,3 @@ pub mod Nearest
 pub mod RootIsNearest
 -- this crate's promises leave one answer each, and its values of document 01
 mod OneAnswer
-mod Values

@@ -111,10 +111,10 @@ table =
     (0 ∷ 0x405f_4000_0000_0000 ∷ 0x4052_c000_0000_0000 ∷ 0x403e_0000_0000_0000 ∷ 0x4018_0000_0000_0000 ∷ [])
     -- P9: exponent 1,024 accepted, 1,025 and -1,025 give 5
     ∷ row (
-      numberOf (apply.applyOf dualAlgebra (dual five float.one) (Powi (pos 1024) float.one))
-      ∷ numberOf (apply.applyOf dualAlgebra (dual five float.one) (Powi (negsuc 1023) float.one))
-      ∷ numberOf (apply.applyOf dualAlgebra (dual five float.one) (Powi (pos 1025) float.one))
-      ∷ numberOf (apply.applyOf dualAlgebra (dual five float.one) (Powi (negsuc 1024) float.one)) ∷ []
+    numberOf (apply.applyOf dualAlgebra (dual five float.one) (Powi (pos 1024) float.one))
+    ∷ numberOf (apply.applyOf dualAlgebra (dual five float.one) (Powi (negsuc 1023) float.one))
+    ∷ numberOf (apply.applyOf dualAlgebra (dual five float.one) (Powi (pos 1025) float.one))
+    ∷ numberOf (apply.applyOf dualAlgebra (dual five float.one) (Powi (negsuc 1024) float.one)) ∷ []
     )
     (0 ∷ 0 ∷ 5 ∷ 5 ∷ [])
     -- P10: root of 2^-1074 is 2^-537; root of -0 is -0
@@ -124,4 +124,10 @@ table =
     -- P12: diagonal 3, 1: no sweep, eigenvalues 1, 3, columns exchanged
     ∷ row (jacobiWords-of (0x4008_0000_0000_0000 ∷ 0 ∷ 0 ∷ 0 ∷ 0 ∷ 0 ∷ 0x3ff0_0000_0000_0000 ∷ 0 ∷ []))
     (0 ∷ 0 ∷ 0x3ff0_0000_0000_0000 ∷ 0 ∷ 0x4008_0000_0000_0000 ∷ 0 ∷ 0 ∷ 0 ∷ 0x3ff0_0000_0000_0000 ∷ 0 ∷ 0x3ff0_0000_0000_0000 ∷ 0 ∷ 0 ∷ 0 ∷ [])
+    -- [[2,1],[99,2]]: one sweep, eigenvalues 1, 3; the 99 is not read
+    ∷ row (jacobiWords-of (0x4000_0000_0000_0000 ∷ 0 ∷ 0x3ff0_0000_0000_0000 ∷ 0 ∷ 0x4058_c000_0000_0000 ∷ 0 ∷ 0x4000_0000_0000_0000 ∷ 0 ∷ []))
+    (0 ∷ 1 ∷ 0x3ff0_0000_0000_0000 ∷ 0 ∷ 0x4008_0000_0000_0000 ∷ 0 ∷ 0x3fe6_a09e_667f_3bcd ∷ 0 ∷ 0x3fe6_a09e_667f_3bcc ∷ 0 ∷ 0xbfe6_a09e_667f_3bcc ∷ 0 ∷ 0x3fe6_a09e_667f_3bcd ∷ 0 ∷ [])
+    -- [[1, 2^-600],[2^-600, 2]]: the square vanishes, no sweep, eigenvalues 1, 2
+    ∷ row (jacobiWords-of (0x3ff0_0000_0000_0000 ∷ 0 ∷ 0x1a70_0000_0000_0000 ∷ 0 ∷ 0x1a70_0000_0000_0000 ∷ 0 ∷ 0x4000_0000_0000_0000 ∷ 0 ∷ []))
+    (0 ∷ 0 ∷ 0x3ff0_0000_0000_0000 ∷ 0 ∷ 0x4000_0000_0000_0000 ∷ 0 ∷ 0x3ff0_0000_0000_0000 ∷ 0 ∷ 0 ∷ 0 ∷ 0 ∷ 0 ∷ 0x3ff0_0000_0000_0000 ∷ 0 ∷ [])
     ∷ []
