@@ -3,5 +3,5 @@
 pub mod RealParts
 -- records in flat floats
 pub mod Flat
--- this crate's promises leave one answer each, and its values of document 01
+-- this crate's promises leave one answer each
 mod OneAnswer

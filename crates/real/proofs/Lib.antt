@@ -16,5 +16,5 @@ mod Patterns
 mod Ends
 pub mod Nearest
 pub mod RootIsNearest
--- this crate's promises leave one answer each, and its values of document 01
+-- this crate's promises leave one answer each
 mod OneAnswer
