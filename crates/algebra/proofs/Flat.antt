@@ -191,3 +191,6 @@ module _ {R : Type 0} (L : Layout R) (W : Lawful L) where
         tabulate-map (A .re) (recordAt L l) (λ p. getD l (p * L .width) float.zero)
         (λ p. G .first (λ i. getD l (p * L .width + i) float.zero) ∙ ap (λ (k : ℕ). getD l k float.zero) (omega arith))
         (recordCount L l) 0
+
+    pub encode-reals : (m : List R) → realParts (L .width) (encode L m) ≡ map (A .re) m
+    encode-reals m = sym (decode-reals (encode L m)) ∙ ap (map (A .re)) (decode-encode m)

@@ -17,13 +17,11 @@ use Rattle.algebra.specs.Loop.{upto}
 use Rattle.algebra.proofs.Loop.{upto-carry, upto-map}
 use Rattle.matrices.specs.Matrix.{cell, store, exchange}
 use Rattle.rotations.specs.Rotation.{Work, work, pair}
-use Rattle.rotations.proofs.Carry.{cond-map, map-set, map-replicate, re-keeps, item-keeps, mapWork, Follows, store-map, pair-carry}
+use Rattle.algebra.proofs.RealParts.{cond-map}
+use Rattle.matrices.proofs.Slopes.{map-set, map-replicate, exchange-map}
+use Rattle.rotations.proofs.Carry.{re-keeps, item-keeps, mapWork, Follows, store-map, pair-carry}
 use Rattle.jacobi.specs.Sweeps.{Run, going, settled, addSquare, columnSquares, sumOfSquares, thresholdOf, row, sweep, addItem, addAll, closeSweep, step, putOne, identity, putDiagonal, diagonal, start, sweepsOf}
 use Rattle.jacobi.specs.Sort.{Pairs, pairs, Eigen, smaller, least, exchangeInRow, exchangeColumns, bring, select, sort, eigen, ended, ordered, jacobiOf}
-
-map-exchange : {R S : Type 0} (g : R → S) (d : R) (p q : ℕ) (l : List R) → map g (exchange d p q l) ≡ exchange (g d) p q (map g l)
-unfolding exchange
-map-exchange g d p q l = map-set g (set l p (getD l q d)) q (getD l p d) ∙ (λ i. set (map-set g l p (getD l q d) i) q (g (getD l p d))) ∙ (λ i. set (set (map g l) p (sym (List·getD-map g l q d) i)) q (sym (List·getD-map g l p d) i))
 
 blank-map : {R S : Type 0} {A : Algebra R} {B : Algebra S} {g : R → S} → Keeps A B g → (c : ℕ) → map g (replicate c (zeroOf A)) ≡ replicate c (zeroOf B)
 blank-map {A = A} {g = g} k c = map-replicate g c (zeroOf A) ∙ ap (replicate c) (k .fromRe float.zero)
@@ -43,7 +41,7 @@ module _ {R S : Type 0} {A : Algebra R} {B : Algebra S} {g : R → S} (k : Keeps
   unfolding exchangeColumns exchangeInRow
   exchange-columns-map m c v =
       upto-map (map g) (exchangeInRow A n m c) (exchangeInRow B n m c)
-      (λ l w. map-exchange g (zeroOf A) (l * n + m) (l * n + c) w ∙ ap (λ (z : S). exchange z (l * n + m) (l * n + c) (map g w)) (k .fromRe float.zero)) 0 n v
+      (λ l w. exchange-map g (zeroOf A) (l * n + m) (l * n + c) w ∙ ap (λ (z : S). exchange z (l * n + m) (l * n + c) (map g w)) (k .fromRe float.zero)) 0 n v
 
   smaller-keeps : (d : List R) (l m : ℕ) → smaller A n d l m ≡ smaller B n (map g d) l m
   unfolding smaller
@@ -57,7 +55,7 @@ module _ {R S : Type 0} {A : Algebra R} {B : Algebra S} {g : R → S} (k : Keeps
   unfolding bring
   bring-map m c e =
       cond-map (mapPairs g) (eqb m c) e (pairs (exchange (zeroOf A) m c (e .d)) (exchangeColumns A n m c (e .v)))
-      ∙ (λ i. cond (eqb m c) (mapPairs g e) (pairs ((map-exchange g (zeroOf A) m c (e .d) ∙ ap (λ (z : S). exchange z m c (map g (e .d))) (k .fromRe float.zero)) i) (exchange-columns-map m c (e .v) i)))
+      ∙ (λ i. cond (eqb m c) (mapPairs g e) (pairs ((exchange-map g (zeroOf A) m c (e .d) ∙ ap (λ (z : S). exchange z m c (map g (e .d))) (k .fromRe float.zero)) i) (exchange-columns-map m c (e .v) i)))
 
   sort-map : (e : Pairs R) → mapPairs g (sort A n e) ≡ sort B n (mapPairs g e)
   unfolding sort select

@@ -12,10 +12,11 @@ use borrow.Author.Tests.{ltb-false, eqb-true, eqb-false, eq-eqb, ne-eqb}
 use Rattle.algebra.specs.Algebra.{Algebra, RealParts, reals, zeroOf}
 use Rattle.algebra.specs.Flat.{Layout, Lawful, Agrees, realParts, recordAt, decode, encode}
 use Rattle.algebra.specs.Outcome.{value, refused}
-use Rattle.algebra.proofs.Flat.{decode-reals, decode-encode, decode-size, decode-at, decode-length, record-same}
+use Rattle.algebra.proofs.Flat.{decode-encode, decode-size, decode-at, decode-length, record-same, encode-reals}
 use Rattle.matrices.specs.Matrix.{cell}
 use Rattle.matrices.proofs.Places.{place}
 use Rattle.matrices.proofs.Permutation.{both}
+use Rattle.matrices.proofs.Answers.{passed, allowed}
 use Rattle.jacobi.specs.Sort.{Eigen, jacobiOf}
 use Rattle.jacobi.specs.Entry.{jacobiRefusal, jacobiAnswered, jacobiDone, jacobiLeft}
 use Rattle.jacobi.specs.SameReals.{SameAbove, SameJacobi}
@@ -23,14 +24,6 @@ use Rattle.jacobi.proofs.Carry.{mapEigen}
 use Rattle.jacobi.proofs.Above.{above, below-unread, above-same, jacobi-seen, map-same}
 
 -- ---- what a number of 0 tells
-
-passed : (t : Bool) (k x : ℕ) → cond t (suc k) x ≡ 0 → (t ≡ false) × (x ≡ 0)
-passed true k x e = absurd (omega arith)
-passed false k x e = (refl, e)
-
-allowed : (t : Bool) (k x : ℕ) → cond t x (suc k) ≡ 0 → (t ≡ true) × (x ≡ 0)
-allowed true k x e = (refl, e)
-allowed false k x e = absurd (omega arith)
 
 some : (n : ℕ) → eqb n 0 ≡ false → 0 < n
 some zero e = absurd (eqb-false 0 0 e refl)
@@ -124,15 +117,12 @@ module _ {R : Type 0} (A : Algebra R) (L : Layout R) (W : Lawful L) (G : Agrees 
       alike : number (length a) (length d) (length v) ≡ number (length b) (length d′) (length v′)
       alike = λ i. number (h .size i) (hd i) (hv i)
 
-      encode-reals : (m : List R) → realParts (L .width) (encode L m) ≡ map (A .re) m
-      encode-reals m = sym (decode-reals L W A G (encode L m)) ∙ ap (map (A .re)) (decode-encode L W m)
-
       done : (x y : Eigen R) → mapEigen (A .re) x ≡ mapEigen (A .re) y → SameJacobi (L .width) (jacobiDone A L n x) (jacobiDone A L n y)
       done x y e =
           record {
             answer = ap (λ (z : Eigen Float). value (z .sweeps)) e;
-            values = λ f. encode-reals (x .values) ∙ ap (λ (z : Eigen Float). z .values) e ∙ sym (encode-reals (y .values));
-            vectors = λ f. encode-reals (x .vectors) ∙ ap (λ (z : Eigen Float). z .vectors) e ∙ sym (encode-reals (y .vectors));
+            values = λ f. encode-reals L W A G (x .values) ∙ ap (λ (z : Eigen Float). z .values) e ∙ sym (encode-reals L W A G (y .values));
+            vectors = λ f. encode-reals L W A G (x .vectors) ∙ ap (λ (z : Eigen Float). z .vectors) e ∙ sym (encode-reals L W A G (y .vectors));
           }
 
       go : (t : Bool) → eqb (number (length a) (length d) (length v)) 0 ≡ t → SameJacobi (L .width) (jacobiLeft A L n a limit d v) (jacobiLeft A L n b limit d′ v′)

@@ -12,7 +12,7 @@ use Rattle.real.specs.Operations as float
 use Rattle.algebra.specs.Algebra.{Algebra, RealParts, reals}
 use Rattle.algebra.specs.Flat.{Layout, Lawful, Agrees, realParts, decode, encode}
 use Rattle.algebra.specs.Outcome.{value, refused, mapOutcome}
-use Rattle.algebra.proofs.Flat.{decode-reals, decode-encode, encode-decode}
+use Rattle.algebra.proofs.Flat.{decode-reals, decode-encode, encode-decode, encode-reals}
 use Rattle.matrices.specs.Entries.{luRefusal, orderRefusal, swapsRefusal, solveRefusal, inverseRefusal, determinantRefusal, LuLeft, luAnswered, solveAnswered, luFinish, luLeft, solveLeft, inverseLeft, determinantLeft}
 use Rattle.matrices.specs.Determinant.{determinantOf}
 use Rattle.matrices.specs.Inverse.{inverseOf}
@@ -25,11 +25,11 @@ use Rattle.matrices.proofs.Slopes.{mapRun, lu-map, solve-map, inverse-m
 
 -- ---- what a number of 0 tells
 
-passed : (t : Bool) (k x : ℕ) → cond t (suc k) x ≡ 0 → (t ≡ false) × (x ≡ 0)
+pub passed : (t : Bool) (k x : ℕ) → cond t (suc k) x ≡ 0 → (t ≡ false) × (x ≡ 0)
 passed true k x e = absurd (omega arith)
 passed false k x e = (refl, e)
 
-allowed : (t : Bool) (k x : ℕ) → cond t x (suc k) ≡ 0 → (t ≡ true) × (x ≡ 0)
+pub allowed : (t : Bool) (k x : ℕ) → cond t x (suc k) ≡ 0 → (t ≡ true) × (x ≡ 0)
 allowed true k x e = (refl, e)
 allowed false k x e = absurd (omega arith)
 
@@ -142,9 +142,6 @@ module _ {R : Type 0} (A : Algebra R) (L : Layout R) (W : Lawful L) (G : Agrees 
   same-reals : (l l′ : List Float) → realParts (L .width) l ≡ realParts (L .width) l′ → map (A .re) (decode L l) ≡ map (A .re) (decode L l′)
   same-reals l l′ e = decode-reals L W A G l ∙ e ∙ sym (decode-reals L W A G l′)
 
-  encode-reals : (m : List R) → realParts (L .width) (encode L m) ≡ map (A .re) m
-  encode-reals m = sym (decode-reals L W A G (encode L m)) ∙ ap (map (A .re)) (decode-encode L W m)
-
   -- what is seen of a finished run but for the slopes comes from the run over the real parts
   seen : LuLeft → LuLeft
   seen x = luAnswered (x .answer) (x .column) (realParts (L .width) (x .factors)) (x .order)
@@ -155,7 +152,7 @@ module _ {R : Type 0} (A : Algebra R) (L : Layout R) (W : Lawful L) (G : Agrees 
 
   finish-seen : (r : Run R) → seen (luFinish A L n r) ≡ seenRun (mapRun (map (A .re)) r)
   unfolding seen seenRun
-  finish-seen (going a p swaps) = ap (λ (l : List Float). luAnswered (value swaps) 0 l p) (encode-reals a)
+  finish-seen (going a p swaps) = ap (λ (l : List Float). luAnswered (value swaps) 0 l p) (encode-reals L W A G a)
   finish-seen (singular c) = refl
 
   lu-seen : (a a′ : List Float) → realParts (L .width) a ≡ realParts (L .width) a′ → seen (luFinish A L n (luOf A n (decode L a))) ≡ seen (luFinish A L n (luOf A n (decode L a′)))
@@ -182,7 +179,7 @@ module _ {R : Type 0} (A : Algebra R) (L : Layout R) (W : Lawful L) (G : Agrees 
   filled-same k m m′ x x′ h e = go (eqb k 0)
     where
       go : (t : Bool) → SameSolve (L .width) (cond t (solveAnswered (value tt) (encode L m)) (solveAnswered (refused k) x)) (cond t (solveAnswered (value tt) (encode L m′)) (solveAnswered (refused k) x′))
-      go true = record { answer = refl; result = λ w. encode-reals m ∙ e ∙ sym (encode-reals m′) }
+      go true = record { answer = refl; result = λ w. encode-reals L W A G m ∙ e ∙ sym (encode-reals L W A G m′) }
       go false = record { answer = refl; result = λ w. absurd (h w) }
 
   never-six : (s t u : Bool) → _≡_ {A = ℕ} (cond s 1 (cond t (cond u 0 7) 2)) 6 → ⊥

@@ -23,16 +23,16 @@ use Rattle.matrices.specs.declared.Pivot.{Pivot}
 -- ---- lists
 
 module _ {R S : Type 0} (h : R → S) where
-  map-set : (l : List R) (i : ℕ) (v : R) → map h (set l i v) ≡ set (map h l) i (h v)
+  pub map-set : (l : List R) (i : ℕ) (v : R) → map h (set l i v) ≡ set (map h l) i (h v)
   map-set [] i v = refl
   map-set (x ∷ l) zero v = refl
   map-set (x ∷ l) (suc i) v = ap (λ (r : List S). h x ∷ r) (map-set l i v)
 
-  map-replicate : (k : ℕ) (v : R) → map h (replicate k v) ≡ replicate k (h v)
+  pub map-replicate : (k : ℕ) (v : R) → map h (replicate k v) ≡ replicate k (h v)
   map-replicate zero v = refl
   map-replicate (suc k) v = ap (λ (r : List S). h v ∷ r) (map-replicate k v)
 
-  exchange-map : (d : R) (p q : ℕ) (l : List R) → map h (exchange d p q l) ≡ exchange (h d) p q (map h l)
+  pub exchange-map : (d : R) (p q : ℕ) (l : List R) → map h (exchange d p q l) ≡ exchange (h d) p q (map h l)
   unfolding exchange
   exchange-map d p q l =
       map-set (set l p (getD l q d)) q (getD l p d)

@@ -14,35 +14,20 @@ use Rattle.real.specs.Sign.{signOf, absOf}
 use Rattle.algebra.specs.Algebra.{Algebra, Keeps, zeroOf, addFloat, magnitude}
 use Rattle.algebra.specs.Loop.{upto}
 use Rattle.algebra.proofs.Loop.{upto-carry, upto-map}
+use Rattle.algebra.proofs.RealParts.{cond-map, magnitude-keeps}
 use Rattle.derivatives.specs.Apply.{recipOf}
 use Rattle.derivatives.proofs.RealParts.{recip-keeps}
 use Rattle.matrices.specs.Matrix.{cell, store}
+use Rattle.matrices.proofs.Slopes.{map-set}
 use Rattle.rotations.specs.declared.Choice.{Choice}
 use Rattle.rotations.specs.declared.Choice.the-variants.{Keep, Clear, Rotate}
 use Rattle.rotations.specs.Rotation.{Angle, angle, Work, work, gapOf, absorbed, choiceOf, hypotenuseOf, tangentOf, rotationTangent, angleBy, angleOf, turnedFirst, turnedSecond, item, shift, turn, turnColumns, turnBetween, turnRows, turnAbove, rotate, act, pair}
 
--- a map of what is chosen is the choice of what is mapped
-pub cond-map : {R S : Type 0} (h : R → S) (b : Bool) (x y : R) → h (cond b x y) ≡ cond b (h x) (h y)
-cond-map h true x y = refl
-cond-map h false x y = refl
-
-pub map-set : {R S : Type 0} (g : R → S) (l : List R) (i : ℕ) (v : R) → map g (set l i v) ≡ set (map g l) i (g v)
-map-set g [] i v = refl
-map-set g (x ∷ l) zero v = refl
-map-set {S = S} g (x ∷ l) (suc i) v = ap (λ (r : List S). g x ∷ r) (map-set g l i v)
-
-pub map-replicate : {R S : Type 0} (g : R → S) (k : ℕ) (x : R) → map g (replicate k x) ≡ replicate k (g x)
-map-replicate g zero x = refl
-map-replicate {S = S} g (suc k) x = ap (λ (r : List S). g x ∷ r) (map-replicate g k x)
-
 -- ---- one entry
 
 module _ {R S : Type 0} {A : Algebra R} {B : Algebra S} {g : R → S} (k : Keeps A B g) where
-  pub magnitude-keeps : (x : R) → g (magnitude A x) ≡ magnitude B (g x)
-  magnitude-keeps x = cond-map g (signOf (A .re x)) (A .neg x) x ∙ (λ i. cond (signOf (k .re x i)) (k .neg x i) (g x))
-
   gap-keeps : (x : R) → g (gapOf A x) ≡ gapOf B (g x)
-  gap-keeps x = k .mulFloat (magnitude A x) ten ∙ ap (λ (y : S). B .mulFloat y ten) (magnitude-keeps x)
+  gap-keeps x = k .mulFloat (magnitude A x) ten ∙ ap (λ (y : S). B .mulFloat y ten) (magnitude-keeps k x)
 
   -- the real part of a sum with a magnitude, and of the magnitude
   pub re-keeps : (x : R) (y : S) → g x ≡ y → A .re x ≡ B .re y
@@ -52,8 +37,8 @@ module _ {R S : Type 0} {A : Algebra R} {B : Algebra S} {g : R → S} (k : Keeps
   unfolding absorbed
   absorbed-keeps x d =
       λ i. eq
-      (re-keeps (A .add x (magnitude A d)) (B .add (g x) (magnitude B (g d))) (k .add x (magnitude A d) ∙ ap (B .add (g x)) (magnitude-keeps d)) i)
-      (re-keeps (magnitude A d) (magnitude B (g d)) (magnitude-keeps d) i)
+      (re-keeps (A .add x (magnitude A d)) (B .add (g x) (magnitude B (g d))) (k .add x (magnitude A d) ∙ ap (B .add (g x)) (magnitude-keeps k d)) i)
+      (re-keeps (magnitude A d) (magnitude B (g d)) (magnitude-keeps k d) i)
 
   choice-keeps : (thresh : Float) (it-num : ℕ) (x dp dq : R) → choiceOf A thresh it-num x dp dq ≡ choiceOf B thresh it-num (g x) (g dp) (g dq)
   unfolding choiceOf
@@ -70,16 +55,16 @@ module _ {R S : Type 0} {A : Algebra R} {B : Algebra S} {g : R → S} (k : Keeps
   tangent-keeps theta =
       let t = recipOf A (A .add (magnitude A theta) (hypotenuseOf A theta)) in
       let t′ = recipOf B (B .add (magnitude B (g theta)) (hypotenuseOf B (g theta))) in
-      let e : g t ≡ t′ = recip-keeps k _ ∙ ap (recipOf B) (k .add _ _ ∙ (λ i. B .add (magnitude-keeps theta i) (hypotenuse-keeps theta i))) in
+      let e : g t ≡ t′ = recip-keeps k _ ∙ ap (recipOf B) (k .add _ _ ∙ (λ i. B .add (magnitude-keeps k theta i) (hypotenuse-keeps theta i))) in
       cond-map g (signOf (A .re theta)) (A .neg t) t ∙ (λ i. cond (signOf (k .re theta i)) ((k .neg t ∙ ap (B .neg) e) i) (e i))
 
   rotation-tangent-keeps : (x h : R) → g (rotationTangent A x h) ≡ rotationTangent B (g x) (g h)
   unfolding rotationTangent
   rotation-tangent-keeps x h =
-      let sum : g (A .add (magnitude A h) (gapOf A x)) ≡ B .add (magnitude B (g h)) (gapOf B (g x)) = k .add _ _ ∙ (λ i. B .add (magnitude-keeps h i) (gap-keeps x i)) in
+      let sum : g (A .add (magnitude A h) (gapOf A x)) ≡ B .add (magnitude B (g h)) (gapOf B (g x)) = k .add _ _ ∙ (λ i. B .add (magnitude-keeps k h i) (gap-keeps x i)) in
       let theta : g (A .div (A .mulFloat h half) x) ≡ B .div (B .mulFloat (g h) half) (g x) = simp (k .div, k .mulFloat) in
       cond-map g (eq (A .re (A .add (magnitude A h) (gapOf A x))) (A .re (magnitude A h))) (A .div x h) (tangentOf A (A .div (A .mulFloat h half) x))
-      ∙ (λ i. cond (eq (re-keeps _ _ sum i) (re-keeps _ _ (magnitude-keeps h) i)) (k .div x h i) ((tangent-keeps (A .div (A .mulFloat h half) x) ∙ ap (tangentOf B) theta) i))
+      ∙ (λ i. cond (eq (re-keeps _ _ sum i) (re-keeps _ _ (magnitude-keeps k h) i)) (k .div x h i) ((tangent-keeps (A .div (A .mulFloat h half) x) ∙ ap (tangentOf B) theta) i))
 
 abbrev pub mapAngle : {R S : Type 0} → (R → S) → Angle R → Angle S
 mapAngle g t = angle (g (t .s)) (g (t .tau)) (g (t .h))
