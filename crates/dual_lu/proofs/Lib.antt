@@ -2,6 +2,8 @@
 mod Held
 -- no second answer, and no second content of a buffer
 pub mod OneAnswer
+-- the order that LU leaves
+pub mod LeavesOrder
 -- demand 3
 pub mod NeverSteered
 -- document 01's values

@@ -111,10 +111,10 @@ table =
     (0 ∷ 0x405f_4000_0000_0000 ∷ 0x4052_c000_0000_0000 ∷ 0x403e_0000_0000_0000 ∷ 0x4018_0000_0000_0000 ∷ [])
     -- P9: exponent 1,024 accepted, 1,025 and -1,025 give 5
     ∷ row (
-      numberOf (apply.applyOf dualAlgebra (dual five float.one) (Powi (pos 1024) float.one))
-      ∷ numberOf (apply.applyOf dualAlgebra (dual five float.one) (Powi (negsuc 1023) float.one))
-      ∷ numberOf (apply.applyOf dualAlgebra (dual five float.one) (Powi (pos 1025) float.one))
-      ∷ numberOf (apply.applyOf dualAlgebra (dual five float.one) (Powi (negsuc 1024) float.one)) ∷ []
+    numberOf (apply.applyOf dualAlgebra (dual five float.one) (Powi (pos 1024) float.one))
+    ∷ numberOf (apply.applyOf dualAlgebra (dual five float.one) (Powi (negsuc 1023) float.one))
+    ∷ numberOf (apply.applyOf dualAlgebra (dual five float.one) (Powi (pos 1025) float.one))
+    ∷ numberOf (apply.applyOf dualAlgebra (dual five float.one) (Powi (negsuc 1024) float.one)) ∷ []
     )
     (0 ∷ 0 ∷ 5 ∷ 5 ∷ [])
     -- P10: root of 2^-1074 is 2^-537; root of -0 is -0
