@@ -2,5 +2,7 @@
 mod Held
 -- no second answer, and no second content of a buffer
 pub mod OneAnswer
+-- the order that LU leaves
+pub mod LeavesOrder
 -- demand 3
 pub mod NeverSteered

@@ -7,7 +7,7 @@ use native.Mathlib.Omega.{arith}
 use lib.Dec.{ltb, eqb}
 use lib.ListN.{length, replicate}
 use lib.Ieee.{Float}
-use borrow.Author.Tests.{ltb-false, eqb-true, eq-eqb, ne-eqb}
+use borrow.Author.Tests.{le-ltb, ltb-false, eqb-true, eq-eqb, ne-eqb}
 use Rattle.real.specs.Operations as float
 use Rattle.algebra.specs.Algebra.{Algebra, RealParts, reals}
 use Rattle.algebra.specs.Flat.{Layout, Lawful, Agrees, realParts, decode, encode}
@@ -17,10 +17,11 @@ use Rattle.matrices.specs.Entries.{luRefusal, orderRefusal, swapsRefusal
 use Rattle.matrices.specs.Determinant.{determinantOf}
 use Rattle.matrices.specs.Inverse.{inverseOf}
 use Rattle.matrices.specs.Lu.{Run, going, singular, luOf}
-use Rattle.matrices.specs.Order.{Order, isOrder}
+use Rattle.matrices.specs.Order.{Order, isOrder, parity, isOdd, differ}
 use Rattle.matrices.specs.SameReals.{SameLu, SameSolve}
 use Rattle.matrices.specs.Solve.{solveOf}
-use Rattle.matrices.proofs.Permutation.{both, isOrder-order}
+use Rattle.matrices.proofs.Parity.{Ordered, swapsIn, lu-ordered, lu-few}
+use Rattle.matrices.proofs.Permutation.{both, isOrder-order, order-isOrder}
 use Rattle.matrices.proofs.Slopes.{mapRun, lu-map, solve-map, inverse-map, determinant-map}
 
 -- ---- what a number of 0 tells
@@ -134,6 +135,40 @@ module _ {R : Type 0} (A : Algebra R) (L : Layout R) (W : Lawful L) (n : ℕ) (r
 
   pub finish-singular : (c : ℕ) → r ≡ singular c → f ≡ replicate (n * n * L .width) float.zero → p ≡ replicate n 0 → luAnswered (refused 6) c f p ≡ luFinish A L n r
   finish-singular c e ef ep = rw e (λ i. luAnswered (refused 6) c (ef i) (ep i))
+
+-- ---- what LU leaves when it is done
+
+-- a permutation of 0..n-1, and a swap count of its parity, at most n
+pub record LeavesOrder (n : ℕ) (p : List ℕ) (swaps : ℕ) : Type 0 where
+  pub small : n ≤ 32
+  pub order : Order n p
+  pub parities : parity p ≡ isOdd swaps
+  pub few : swaps ≤ n
+
+module _ {R : Type 0} (A : Algebra R) (L : Layout R) (n : ℕ) where
+  pub lu-leaves-order : (a f : List Float) (p : List ℕ) (swaps : ℕ) → luLeft A L n a f p .answer ≡ value swaps → LeavesOrder n (luLeft A L n a f p .order) swaps
+  unfolding luLeft
+  lu-leaves-order a f p swaps = go (ltb 32 n) refl (eqb (length a) (n * n * L .width) && (eqb (length f) (n * n * L .width) && eqb (length p) n)) (luOf A n (decode L a)) (lu-ordered A n (decode L a)) (lu-few A n (decode L a))
+    where
+      left : Bool → Bool → Run R → LuLeft
+      left s t r = let k : ℕ = cond s 1 (cond t 0 2) in cond (eqb k 0) (luFinish A L n r) (luAnswered (refused k) 0 f p)
+
+      go : (s : Bool) → ltb 32 n ≡ s → (t : Bool) (r : Run R) → Ordered n r → swapsIn r ≤ n → left s t r .answer ≡ value swaps → LeavesOrder n (left s t r .order) swaps
+      go true h t r o b e = absurd (let z : _≡_ {A = ℕ} 0 1 = cc in omega arith)
+      go false h false r o b e = absurd (let z : _≡_ {A = ℕ} 0 1 = cc in omega arith)
+      go false h true (singular c) o b e = absurd (let z : _≡_ {A = ℕ} 0 1 = cc in omega arith)
+      go false h true (going m q k) o b e = let z : k ≡ swaps = cc in record { small = ltb-false 32 n h; order = o .0; parities = o .1 ∙ ap isOdd z; few = omega arith }
+
+-- solve, inverse and determinant accept it: 7 and 8 never refuse what LU made
+pub accepted-order : (n : ℕ) (p : List ℕ) (swaps : ℕ) → LeavesOrder n p swaps → (orderRefusal n p ≡ 0) × (swapsRefusal p swaps ≡ 0)
+accepted-order n p swaps l =
+    let s = l .small in
+    let b = l .few in
+    (rw (order-isOrder n p (l .order)) refl, rw (le-ltb 32 swaps (omega arith), l .parities) (go (isOdd swaps)))
+  where
+    go : (t : Bool) → _≡_ {A = ℕ} (cond (differ t t) 8 0) 0
+    go true = refl
+    go false = refl
 
 -- ---- demand 3 of what two calls leave
 

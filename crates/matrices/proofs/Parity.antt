@@ -1,7 +1,8 @@
--- The parity of an order: an exchange flips it, 0..n-1 is even, and LU's order is a permutation with the parity of the swap count. Assumes nothing.
-use Prim.Native.Nat.{ℕ, zero, suc, _≤_, _<_}
+-- The parity of an order: an exchange flips it, 0..n-1 is even, and LU's order is a permutation with the parity of the swap count,
+-- which is at most n. Assumes nothing.
+use Prim.Native.Nat.{ℕ, zero, suc, _≤_, _<_, _+_}
 use mathlib.Core.Path.{_≡_, refl, ap, sym, _∙_}
-use mathlib.Core.Bool.{Bool, true, false, not, Bool·not-not}
+use mathlib.Core.Bool.{Bool, true, false, not, cond, Bool·not-not}
 use mathlib.Core.List.{List, [], _∷_}
 use native.Mathlib.Omega.{arith}
 use native.Mathlib.Numerals.{add-one}
@@ -13,8 +14,8 @@ use borrow.Author.Tests.{lt-ltb, le-ltb, eqb-true, eqb-false}
 use Rattle.real.specs.Operations as float
 use Rattle.algebra.specs.Algebra.{Algebra, zeroOf}
 use Rattle.algebra.specs.Flat.{tabulate}
-use Rattle.algebra.proofs.Loop.{upto-keep}
-use Rattle.matrices.specs.Matrix.{exchange}
+use Rattle.algebra.proofs.Loop.{upto-keep, upto-reach}
+use Rattle.matrices.specs.Matrix.{exchange, exchangeRows}
 use Rattle.matrices.specs.Lu.{Run, going, singular, numbers, bring, pivotOf, reduceRun, column, luOf}
 use Rattle.matrices.specs.Order.{Distinct, Order, differ, oddBelow, parity, isOdd}
 use Rattle.matrices.specs.declared.Pivot.{Pivot}
@@ -121,6 +122,11 @@ abbrev pub Ordered : {B : Type 0} → ℕ → Run B → Type 0
 Ordered n (going a p swaps) = Order n p × (parity p ≡ isOdd swaps)
 Ordered n (singular c) = Unit {0}
 
+-- the swaps of a run
+abbrev pub swapsIn : {B : Type 0} → Run B → ℕ
+swapsIn (going a p swaps) = swaps
+swapsIn (singular c) = 0
+
 bring-ordered : {B : Type 0} (d : B) (k n : ℕ) (b : Pivot) (i : ℕ) (a : List B) (p : List ℕ) (swaps : ℕ) → i ≤ b .row → b .row < n → Order n p × (parity p ≡ isOdd swaps) → Ordered n (bring d k b i a p swaps)
 unfolding isOdd
 bring-ordered d k n b i a p swaps l u o = pick (eq (b .size) float.zero) refl
@@ -156,3 +162,20 @@ module _ {R : Type 0} (A : Algebra R) (n : ℕ) where
   pub lu-ordered : (a : List R) → Ordered n (luOf A n a)
   unfolding luOf isOdd
   lu-ordered a = upto-keep (Ordered n) (column A n) 0 n (λ i r l u o. column-ordered i r u o) (going a (numbers n) 0) (numbers-order n, numbers-parity n 0)
+
+  -- a column counts at most one swap
+  column-few : (i : ℕ) (r : Run R) → swapsIn r ≤ i → swapsIn (column A n i r) ≤ i + 1
+  unfolding column bring
+  column-few i (singular c) h = omega arith
+  column-few i (going a p swaps) h = go (eq (pivotOf A n a i .size) float.zero) (eqb (pivotOf A n a i .row) i)
+    where
+      go : (s t : Bool)
+          → swapsIn (reduceRun A n i (cond s (singular i) (cond t (going a p swaps) (going (exchangeRows (zeroOf A) n i (pivotOf A n a i .row) a) (exchange 0 i (pivotOf A n a i .row) p) (swaps + 1))))) ≤ i + 1
+      go true t = omega arith
+      go false true = omega arith
+      go false false = omega arith
+
+  -- LU counts at most n swaps
+  pub lu-few : (a : List R) → swapsIn (luOf A n a) ≤ n
+  unfolding luOf
+  lu-few a = upto-reach (λ i r. swapsIn r ≤ i) (column A n) 0 n (omega arith) (λ i r l u h. column-few i r h) (going a (numbers n) 0) (omega arith)
