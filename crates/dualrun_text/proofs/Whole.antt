@@ -5,8 +5,8 @@ use mathlib.Core.Bool.{Bool, true, false, cond}
 use mathlib.Core.List.{List, [], _∷_, _++_}
 use native.Mathlib.Omega.{arith}
 use lib.Dec.{ltb, leb, eqb}
-use lib.ListN.{length, take, getD, length-append, length-take, replicate}
-use lib.Seq.{take-all, getD-take, length-take-le}
+use lib.ListN.{length, take, drop, getD, length-append, length-take, replicate}
+use lib.Seq.{take-all, getD-take, length-take-le, sets-eq}
 use lib.Ieee.{Float, binary64, toBits}
 use borrow.Author.Tests.{ltb-true, ltb-false, le-ltb}
 use Rattle.io.specs.Digits.{digits}
@@ -20,9 +20,11 @@ use Rattle.dualrun_text.specs.declared.Request.the-variants.{Lu, Eig, Un
 use Rattle.dualrun_text.specs.Digits.{byteAt}
 use Rattle.dualrun_text.specs.Request.{requestOf}
 use Rattle.dualrun_text.specs.Body.{isBody, floatsFrom}
+use Rattle.dualrun_text.specs.Page.{page, written}
 use Rattle.dualrun_text.specs.Lines.{places, decimalText, wordText, pairLine, recordLine, recordLines, entryText, entries, orderLine}
 use Rattle.dualrun_text.specs.Output.{luLines, luPrinted, eigLines, eigPrinted, luOfLines, eigOfLines, luOutput, eigOutput, outputFor, outputOf, unreadable}
 use Rattle.dualrun_text.proofs.Commands.{square}
+use Rattle.dualrun_text.proofs.Page.{written-fits}
 use Rattle.dualrun_text.proofs.Words.{body-other-length}
 use Rattle.dualrun_text.proofs.FirstBytes.{request-same, startOf, start-small}
 
@@ -172,3 +174,13 @@ output-most text Unreadable = omega arith
 pub written-whole : (text : List ℕ) → length (outputOf text) ≤ 65536
 unfolding outputOf
 written-whole text = output-most text (requestOf text)
+
+-- so a buffer of 65,536 bytes or more begins with the whole output and stays as it was behind it
+pub whole-output : (text out : List ℕ) → 65536 ≤ length out → written (page out 0) (outputOf text) ≡ page (outputOf text ++ drop (length (outputOf text)) out) (length (outputOf text))
+whole-output text out h =
+    let o = outputOf text in
+    let none : 0 + length o ≡ length o = omega arith in
+    let room : 0 + length o ≤ length out = omega (arith, written-whole text) in
+    written-fits out 0 o room
+    ∙ (λ i. page (sets-eq o out 0 room i) (none i))
+    ∙ ap (λ (k : ℕ). page (o ++ drop k out) (length o)) none
