@@ -173,6 +173,7 @@ pub(crate) fn sweeps(
     requires { ⌜ Sized n (now a) (now v) (now d) (now zw) ⌝ }
     requires { ⌜ length (now bw) ≡ n * 2 ⌝ }
     requires { ⌜ limit ≤ 1000 ⌝ }
+    ensures { λ _. ⌜ Sized n (now (a .exit)) (now (v .exit)) (now (d .exit)) (now (zw .exit)) ⌝ }
     ensures { λ r. ⌜ eigen (records (now (d .exit))) (records (now (v .exit))) (r .sweeps) (r .rotations) (r .stopped)
         ≡ ended (upto 0 limit (rule.step dualAlgebra n) (runOf (now (a .entry)) (now (v .entry)) (now (d .entry)) (now (zw .entry)) (now (bw .entry)) 0 0)) ⌝ }
 {

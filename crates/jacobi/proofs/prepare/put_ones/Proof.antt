@@ -31,7 +31,7 @@ loop-less c = search needs
 
 loop-again : tie.Need-loop-again Inv-loop μ-loop
 unfolding putOne
-loop-again c = 
+loop-again c =
     let at = c .before .before .before .before .before in
     (omega arith, (search needs, upto-turn (at .loop .i) _ _ (records (at .loop .v)) _ (c .before .before .before .before .loop-test .taken) (c .before .before .put .ensures .1) (at .loop .inv .1 .1)))
 

@@ -45,7 +45,7 @@ loop-less c = search needs
 
 loop-again : tie.Need-loop-again Inv-loop μ-loop
 unfolding exchangeInRow
-loop-again c = 
+loop-again c =
     let at = c .before .before .before .before .before in
     let s = at .loop .inv .1 .0 in
     (omega arith, (record { small = s .small; some = s .some; narrow = s .narrow; full = omega arith }, upto-turn (at .loop .l) _ _ (records (at .loop .v)) _ (c .before .before .before .before .loop-test .taken) (c .before .before .exchange .ensures) (at .loop .inv .1 .1)))

@@ -33,7 +33,7 @@ loop-less : tie.Need-loop-less Inv-loop μ-loop
 loop-less c = search needs
 
 loop-again : tie.Need-loop-again Inv-loop μ-loop
-loop-again c = 
+loop-again c =
     let at = c .before .before in
     (c .smaller .ensures .1, (omega arith, upto-turn (at .loop .l) _ _ (at .loop .m) _ (c .before .loop-test .taken) (c .smaller .ensures .0) (at .loop .inv .1 .1)))
 

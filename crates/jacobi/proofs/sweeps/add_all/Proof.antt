@@ -41,7 +41,7 @@ loop-less c = search needs
 
 loop-again : tie.Need-loop-again Inv-loop μ-loop
 unfolding addItem
-loop-again c = 
+loop-again c =
     let at = c .before .before .before .before .before .before .before .before .before in
     (omega arith, (omega arith, upto-turn (at .loop .i) _ _ (records (at .loop .bw)) _ (c .before .before .before .before .before .before .before .before .loop-test .taken) (cc) (at .loop .inv .1 .1)))
 

@@ -31,7 +31,7 @@ loop-less : tie.Need-loop-less Inv-loop μ-loop
 loop-less c = search needs
 
 loop-again : tie.Need-loop-again Inv-loop μ-loop
-loop-again c = 
+loop-again c =
     let at = c .before .before .before in
     (omega arith, upto-turn (at .loop .i) _ _ (at .loop .sum) _ (c .before .before .loop-test .taken) (square-by dualAlgebra _ _ _ _ _ _ (c .before .get .ensures)) (at .loop .inv .1))
 

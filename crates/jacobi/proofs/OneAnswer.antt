@@ -1,0 +1,25 @@
+-- No second outcome meets the promise of the entry: one answer, and one content of each lent buffer. Assumes nothing.
+use mathlib.Core.Path.{_≡_, ap, sym, _∙_}
+use borrow.Fn.Kinds.{endedOf}
+use denote.Triple.Clauses.{atExit}
+use Rattle.real.proofs.Only.{Only}
+use Rattle.jacobi.specs.Entry.{JacobiLeft}
+use Rattle.jacobi.specs.Answer.{outcome}
+use Rattle.jacobi.specs.declared.JacobiAnswer.{JacobiAnswer}
+use Rattle.jacobi.specs.declared.JacobiAnswer.the-variants.{Done, Refused}
+use Rattle.jacobi.proofs.jacobi_eigenvalue.Kinds as kinds
+use Rattle.jacobi.proofs.jacobi_eigenvalue.Reads as reads
+
+-- document 01's reading tells the answers apart
+pub jacobi-one : (x y : JacobiAnswer) → outcome x ≡ outcome y → x ≡ y
+jacobi-one (Done s) (Done t) e = cc
+jacobi-one (Done s) (Refused k) e = cc
+jacobi-one (Refused k) (Done t) e = cc
+jacobi-one (Refused k) (Refused j) e = cc
+
+pub jacobi-only : Only 3 kinds.ps kinds.r reads.Pre reads.Post
+jacobi-only κs a x y v w h p q =
+    let e = p ∙ sym q in (
+      jacobi-one x y (ap (λ (l : JacobiLeft). l .answer) e),
+      λ i. atExit (endedOf 3 kinds.ps kinds.r) κs a (v .0, (v .1 .0, (v .1 .1 .0, (ap (λ (l : JacobiLeft). l .values) e i, (ap (λ (l : JacobiLeft). l .vectors) e i, tt))))),
+    )

@@ -1,0 +1,44 @@
+use Rattle.dual.specs.Rules.{dualAlgebra}
+use Rattle.jacobi.proofs.Calls.{select-stays, select-moves}
+use borrow.Author.Needs.{needs}
+use Rattle.jacobi.proofs.sort.select.Statement.{statement}
+use Rattle.jacobi.proofs.sort.select.Tie as tie
+
+least-requires : tie.Need-least-requires
+least-requires c κs = search needs
+
+same-length : tie.Need-same-length
+same-length c = search needs
+
+returns : tie.Need-returns
+returns c = (c .before .before .before .before .before .pre .0 .1, select-stays dualAlgebra _ _ _ _ (c .before .least .ensures .0) (c .if1 .taken))
+
+exchange-requires : tie.Need-exchange-requires
+exchange-requires c κs = search needs
+
+exchange-columns-requires : tie.Need-exchange-columns-requires
+exchange-columns-requires c κs = search needs
+
+same-length-2 : tie.Need-same-length-2
+same-length-2 c = search needs
+
+same-length-3 : tie.Need-same-length-3
+same-length-3 c = search needs
+
+returns-2 : tie.Need-returns-2
+returns-2 c =
+    let v = c .before .before .exchange-columns .ensures in
+    (v .0, select-moves dualAlgebra _ _ _ _ _ _ (c .before .before .before .before .before .before .before .before .before .least .ensures .0) (c .before .before .before .before .before .before .before .before .if1 .left) (c .before .before .before .before .before .before .exchange .ensures) (v .1))
+
+pub select-spec : {M : Type 1} → statement M
+select-spec =
+    tie.close
+    (tie.spec
+    least-requires
+    same-length
+    returns
+    exchange-requires
+    exchange-columns-requires
+    same-length-2
+    same-length-3
+    returns-2)
