@@ -1,20 +1,4 @@
-// The library for C and Rust to link: each function here is one of the crates' own under its promise.
-ghost use mathlib.Core.Path.{_≡_};
-ghost use lib.Ieee.{binary64, ofBits, toBits};
-ghost use Rattle.real.specs.Root.{sqrtOf};
-
-// The square root of a float.
-#[no_mangle]
-pub extern "C" fn evindrast_sqrt(x: f64) -> f64
-    ensures { λ r. ⌜ r ≡ sqrtOf x ⌝ }
-{
-    real::sqrt(x)
-}
-
-// The square root by words: a NaN leaves as 7ff8000000000000.
-#[no_mangle]
-pub extern "C" fn evindrast_sqrt_word(w: u64) -> u64
-    ensures { λ r. ⌜ r ≡ toBits binary64 (sqrtOf (ofBits binary64 w)) ⌝ }
-{
-    real::word_of_float(real::sqrt(real::float_of_word(w)))
-}
+// The library for C and Rust to link: each function here is one of the crates' own under its promise. Slices cross as a pointer and a length, and a lent
+// buffer overlaps no other. An answer leaves as document 01's number, 0 where the call is done; a call that is refused writes nothing, but for 6 (see `evindrast_lu`).
+mod linalg;
+mod root;

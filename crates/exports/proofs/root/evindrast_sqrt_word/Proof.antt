@@ -1,6 +1,6 @@
 use borrow.Author.Needs.{needs}
-use Rattle.exports.proofs.evindrast_sqrt_word.Statement.{statement}
-use Rattle.exports.proofs.evindrast_sqrt_word.Tie as tie
+use Rattle.exports.proofs.root.evindrast_sqrt_word.Statement.{statement}
+use Rattle.exports.proofs.root.evindrast_sqrt_word.Tie as tie
 
 float-of-word-requires : tie.Need-float-of-word-requires
 float-of-word-requires c κs = search needs

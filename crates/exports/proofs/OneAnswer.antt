@@ -1,0 +1,70 @@
+-- No second outcome meets the promise of an export: one number, and one content of each lent place and buffer. Assumes nothing.
+use Prim.Native.Nat.{ℕ}
+use mathlib.Core.Path.{_≡_, refl, ap, sym, _∙_}
+use mathlib.Core.List.{List}
+use lib.Ieee.{Float}
+use borrow.Fn.Kinds.{endedOf}
+use denote.Triple.Clauses.{atExit}
+use Rattle.real.proofs.Only.{Only}
+use Rattle.exports.proofs.root.evindrast_sqrt.Kinds as sqrt-k
+use Rattle.exports.proofs.root.evindrast_sqrt.Reads as sqrt-r
+use Rattle.exports.proofs.root.evindrast_sqrt_word.Kinds as sqrt-word-k
+use Rattle.exports.proofs.root.evindrast_sqrt_word.Reads as sqrt-word-r
+use Rattle.exports.proofs.linalg.evindrast_lu.Kinds as lu-k
+use Rattle.exports.proofs.linalg.evindrast_lu.Reads as lu-r
+use Rattle.exports.proofs.linalg.evindrast_solve.Kinds as solve-k
+use Rattle.exports.proofs.linalg.evindrast_solve.Reads as solve-r
+use Rattle.exports.proofs.linalg.evindrast_determinant.Kinds as determinant-k
+use Rattle.exports.proofs.linalg.evindrast_determinant.Reads as determinant-r
+use Rattle.exports.proofs.linalg.evindrast_inverse.Kinds as inverse-k
+use Rattle.exports.proofs.linalg.evindrast_inverse.Reads as inverse-r
+use Rattle.exports.proofs.linalg.evindrast_jacobi_eigenvalue.Kinds as jacobi-k
+use Rattle.exports.proofs.linalg.evindrast_jacobi_eigenvalue.Reads as jacobi-r
+
+-- the parts of what crosses
+first : {A B : Type 0} {x y : A × B} → x ≡ y → x .0 ≡ y .0
+first e = ap (λ p. p .0) e
+
+rest : {A B : Type 0} {x y : A × B} → x ≡ y → x .1 ≡ y .1
+rest e = ap (λ p. p .1) e
+
+pub sqrt-only : Only 0 sqrt-k.ps sqrt-k.r sqrt-r.Pre sqrt-r.Post
+sqrt-only κs a x y v w h p q = (p ∙ sym q, refl)
+
+pub sqrt-word-only : Only 0 sqrt-word-k.ps sqrt-word-k.r sqrt-word-r.Pre sqrt-word-r.Post
+sqrt-word-only κs a x y v w h p q = (p ∙ sym q, refl)
+
+pub lu-only : Only 4 lu-k.ps lu-k.r lu-r.Pre lu-r.Post
+lu-only κs a x y v w h p q =
+    let e = p ∙ sym q in (
+      first e,
+      λ i. atExit (endedOf 4 lu-k.ps lu-k.r) κs a (v .0, (v .1 .0, (first (rest (rest e)) i, (rest (rest (rest e)) i, (first (rest e) i, tt))))),
+    )
+
+pub solve-only : Only 4 solve-k.ps solve-k.r solve-r.Pre solve-r.Post
+solve-only κs a x y v w h p q =
+    let e = p ∙ sym q in (
+      first e,
+      λ i. atExit (endedOf 4 solve-k.ps solve-k.r) κs a (v .0, (v .1 .0, (v .1 .1 .0, (v .1 .1 .1 .0, (rest e i, tt))))),
+    )
+
+pub determinant-only : Only 4 determinant-k.ps determinant-k.r determinant-r.Pre determinant-r.Post
+determinant-only κs a x y v w h p q =
+    let e = p ∙ sym q in (
+      first e,
+      λ i. atExit (endedOf 4 determinant-k.ps determinant-k.r) κs a (v .0, (v .1 .0, (v .1 .1 .0, (v .1 .1 .1 .0, (first (rest e) i, (rest (rest e) i, tt)))))),
+    )
+
+pub inverse-only : Only 3 inverse-k.ps inverse-k.r inverse-r.Pre inverse-r.Post
+inverse-only κs a x y v w h p q =
+    let e = p ∙ sym q in (
+      first e,
+      λ i. atExit (endedOf 3 inverse-k.ps inverse-k.r) κs a (v .0, (v .1 .0, (v .1 .1 .0, (rest e i, tt)))),
+    )
+
+pub jacobi-only : Only 4 jacobi-k.ps jacobi-k.r jacobi-r.Pre jacobi-r.Post
+jacobi-only κs a x y v w h p q =
+    let e = p ∙ sym q in (
+      first e,
+      λ i. atExit (endedOf 4 jacobi-k.ps jacobi-k.r) κs a (v .0, (v .1 .0, (v .1 .1 .0, (first (rest (rest e)) i, (rest (rest (rest e)) i, (first (rest e) i, tt)))))),
+    )

@@ -1,0 +1,2 @@
+-- What the contracts of the exports are written with, beside the definitions of the entries. Definitions only.
+pub mod Numbered

@@ -1,0 +1,37 @@
+-- What a call leaves, as it crosses to C: document 01's number first, then what the lent places and buffers hold. Definitions only.
+use Prim.Native.Nat.{ℕ}
+use mathlib.Core.Bool.{cond}
+use mathlib.Core.List.{List}
+use lib.Dec.{eqb}
+use lib.Ieee.{Float}
+use Rattle.algebra.specs.Outcome.{Outcome, value, refused, numberOf}
+use Rattle.dual.specs.declared.Dual.{Dual}
+use Rattle.matrices.specs.Entries.{LuLeft, SolveLeft}
+use Rattle.jacobi.specs.Entry.{JacobiLeft}
+
+-- a count: written where the call is done, else as it was
+abbrev pub countOf : ℕ → Outcome ℕ → ℕ
+countOf before (value count) = count
+countOf before (refused number) = before
+
+-- beside LU's number: the swap count, or at 6 the column; else as it was
+abbrev pub besideOf : ℕ → Outcome ℕ → ℕ → ℕ
+besideOf before (value swaps) column = swaps
+besideOf before (refused number) column = cond (eqb number 6) column before
+
+-- LU: the number, what stands beside it, the factors, the order
+abbrev pub luNumbered : ℕ → LuLeft → ℕ × (ℕ × (List Float × List ℕ))
+luNumbered before l = (numberOf (l .answer), (besideOf before (l .answer) (l .column), (l .factors, l .order)))
+
+-- solve and inverse: the number, the result
+abbrev pub solveNumbered : SolveLeft → ℕ × List Float
+solveNumbered l = (numberOf (l .answer), l .result)
+
+-- the determinant: the number, then both parts, as they were where it is refused
+abbrev pub determinantNumbered : Float → Float → Outcome Dual → ℕ × (Float × Float)
+determinantNumbered re eps (value x) = (0, (x .re, x .eps))
+determinantNumbered re eps (refused number) = (number, (re, eps))
+
+-- Jacobi: the number, the sweeps, the values, the vectors
+abbrev pub jacobiNumbered : ℕ → JacobiLeft → ℕ × (ℕ × (List Float × List Float))
+jacobiNumbered before l = (numberOf (l .answer), (countOf before (l .answer), (l .values, l .vectors)))
