@@ -63,14 +63,15 @@ fn lu_case(matrix: &Matrix) -> String {
     text.join("\n")
 }
 
-/// Factors for the functions that take them: every other made by LU, the rest lent.
+/// Factors for the functions that take them: every other made by LU, the rest lent. Which of the two
+/// the odd places are changes every 128, so that large ones are of both kinds.
 fn factors(random: &mut Random, cases: usize) -> Vec<Factors> {
     let mut all: Vec<Factors> =
         (explicit().iter()).filter_map(|matrix| lu(matrix.n, &matrix.entries).ok()).collect();
     for i in 0..cases {
         let n = size(random, i);
         let style = GENERAL[i / 2 % GENERAL.len()];
-        let made = lu(n, &matrix(random, n, style).entries).ok().filter(|_| i % 2 == 1);
+        let made = lu(n, &matrix(random, n, style).entries).ok().filter(|_| (i + i / 128) % 2 == 1);
         all.push(made.unwrap_or_else(|| lent(random, n, style)));
     }
     all

@@ -30,10 +30,11 @@ pub const SYMMETRIC: &[Style] = &[
     Sorted, Overflowing, FortyNine, NegativeZeros, Wide, Bits, EqualRows,
 ];
 
-/// Mostly small; every sixty-fourth is large, 32, 12 and 9 first, then each size in turn.
+/// Mostly small; every sixty-fourth is of any size, 32, 12 and 9 first, then each in turn, one
+/// further every round, so that every size meets every style.
 pub fn size(random: &mut Random, i: usize) -> usize {
     match (i % 64, i / 64) {
-        (63, turn) => [32, 12, 9].get(turn).copied().unwrap_or(turn % 33),
+        (63, turn) => [32, 12, 9].get(turn).copied().unwrap_or((turn + turn / 33) % 33),
         _ => random.choose(&[1, 2, 2, 2, 2, 3, 3, 3, 3, 4, 4, 5, 6]),
     }
 }
