@@ -75,8 +75,6 @@ functions! {
     AddFloat 0x10 "add float" 1 [Float] Record;
     SubFloat 0x11 "sub float" 1 [Float] Record;
     Scale 0x12 "scale" 1 [Float] Record;
-    Compare 0x13 "eq lt le gt ge" 2 [] Number;
-    Sign 0x14 "is_negative is_positive" 1 [] Number;
     Abs 0x15 "abs" 1 [] Record;
     Signum 0x16 "signum" 1 [] Record;
     AbsSub 0x17 "abs_sub" 2 [] Record;
@@ -113,6 +111,15 @@ functions! {
     SphJ2 0x36 "sph_j2" 1 [Value(Sin), Value(Cos)] Record;
     MulAdd 0x37 "mul_add" 3 [] Record;
     Powd 0x38 "powd" 2 [Value(Ln), Value(Exp)] Record;
+    Eq 0x3b "eq" 2 [] Number;
+    Lt 0x3c "lt" 2 [] Number;
+    Le 0x3d "le" 2 [] Number;
+    Gt 0x3e "gt" 2 [] Number;
+    Ge 0x3f "ge" 2 [] Number;
+    IsNegative 0x40 "is_negative" 1 [] Number;
+    IsPositive 0x41 "is_positive" 1 [] Number;
+    IsZero 0x42 "is_zero" 1 [] Number;
+    IsOne 0x43 "is_one" 1 [] Number;
 }
 
 impl Description {
@@ -169,7 +176,10 @@ fn of_one<F: Part, R: Record<F>>(function: Function, x: R, k: F, exponent: i32) 
         Function::AddFloat => agreed([x + k, assigned(x, |a| *a += k)]),
         Function::SubFloat => agreed([x - k, assigned(x, |a| *a -= k)]),
         Function::Scale => parts(x.scale(&k)),
-        Function::Sign => vec![u64::from(x.is_negative()) | u64::from(x.is_positive()) << 1],
+        Function::IsNegative => truth(x.is_negative()),
+        Function::IsPositive => truth(x.is_positive()),
+        Function::IsZero => truth(x.is_zero()),
+        Function::IsOne => truth(x.is_one()),
         Function::Abs => parts(x.abs()),
         Function::Signum => parts(x.signum()),
         Function::Recip => parts(x.recip()),
@@ -226,21 +236,31 @@ fn of_two<F: Part, R: Record<F>>(function: Function, x: R, y: R) -> Vec<u64> {
         Function::Sub => agreed([x - y, x - &y, assigned(x, |a| *a -= y)]),
         Function::Mul => agreed([x * y, x * &y, assigned(x, |a| *a *= y)]),
         Function::Div => agreed([x / y, x / &y, assigned(x, |a| *a /= y)]),
-        Function::Compare => vec![compare(&x, &y)],
         Function::AbsSub => parts(x.abs_sub(&y)),
         Function::Atan2 => parts(x.atan2(y)),
         Function::Powd => parts(x.powd(y)),
-        _ => panic!("{function:?} of two records"),
+        _ => truth(compare(function, x, y)),
     }
 }
 
-/// eq 1, lt 2, le 4, gt 8, ge 16; the same against the real part as a plain float.
-fn compare<F: Part, R: Record<F>>(x: &R, y: &R) -> u64 {
-    let bits = |all: [bool; 5]| (0..5).map(|i| u64::from(all[i]) << i).sum();
+/// A comparison of two records; the same against the second's real part as a plain float.
+fn compare<F: Part, R: Record<F>>(function: Function, x: R, y: R) -> bool {
     let re = y.re();
-    let plain: u64 = bits([*x == re, *x < re, *x <= re, *x > re, *x >= re]);
-    assert_eq!(plain, bits([x == y, x < y, x <= y, x > y, x >= y]));
-    plain
+    let [records, plain] = match function {
+        Function::Eq => [x == y, x == re],
+        Function::Lt => [x < y, x < re],
+        Function::Le => [x <= y, x <= re],
+        Function::Gt => [x > y, x > re],
+        Function::Ge => [x >= y, x >= re],
+        _ => panic!("{function:?} of two records"),
+    };
+    assert_eq!(records, plain, "a comparison with a plain float differs");
+    records
+}
+
+/// 1 where it holds, else 0.
+fn truth(holds: bool) -> Vec<u64> {
+    vec![u64::from(holds)]
 }
 
 fn parts<F: Part, R: Record<F>>(record: R) -> Vec<u64> {

@@ -40,10 +40,12 @@ fn has<K: Kind>(description: &Description) -> bool {
 
 fn functions_of<K: Kind>(run: Run, called: &mut Called) -> Answers {
     let name = format!("records-{}.txt", K::NAME);
-    let mut random = Random::new(run.seed, &name);
-    let pool = Pool::new(&mut random);
+    let pool = Pool::new(&mut Random::new(run.seed, &name));
     let (mut cases, mut counts) = (vec![], vec![]);
     for description in FUNCTIONS.iter().filter(|d| has::<K>(d)) {
+        // A sequence of its own, so that a function more or less leaves the others' cases alone.
+        let mut random =
+            Random::new(run.seed, &format!("{:02x}-{name}", description.function as u8));
         let requests = requests(&mut random, &pool, description, K::PARTS, run.cases);
         counts.push((description.name.to_string(), requests.len()));
         for request in &requests {

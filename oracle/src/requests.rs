@@ -13,8 +13,8 @@ pub struct Request {
     pub supplied: Option<Vec<f64>>,
 }
 
-/// All requests for one function: edges first, then random; where something comes from outside,
-/// the last three tenths carry arbitrary values. A constant has one case.
+/// All requests for one function: fixed ones and edges first, then random; where something comes
+/// from outside, the last three tenths carry arbitrary values. A constant has one case.
 pub fn requests(
     random: &mut Random,
     pool: &Pool,
@@ -26,7 +26,9 @@ pub fn requests(
     let cases = if constant { 1 } else { cases };
     let own = if description.outside().is_empty() { cases } else { cases - cases * 3 / 10 };
     let mut maker = Maker { random, pool, description, parts };
-    (0..cases).map(|i| maker.request(i, i < own)).collect()
+    let mut requests = maker.fixed();
+    requests.extend((requests.len()..cases).enumerate().map(|(i, at)| maker.request(i, at < own)));
+    requests
 }
 
 struct Maker<'a> {
@@ -37,6 +39,39 @@ struct Maker<'a> {
 }
 
 impl Maker<'_> {
+    /// For comparisons and tests: the real parts that decide them, with derivative parts that must
+    /// not matter.
+    fn fixed(&mut self) -> Vec<Request> {
+        let records: Vec<Vec<Vec<u8>>> = match self.description.function {
+            Function::Eq
+            | Function::Lt
+            | Function::Le
+            | Function::Gt
+            | Function::Ge
+            | Function::AbsSub => PAIRS.iter().flat_map(|pair| self.pairs(*pair)).collect(),
+            Function::IsNegative | Function::IsPositive | Function::IsZero | Function::IsOne => {
+                let with = |real| SLOPES.map(|slope| vec![self.with(real, |_| slope)]);
+                TESTED.iter().copied().flat_map(with).collect()
+            }
+            _ => vec![],
+        };
+        let request = |records| Request { records, argument: Argument::default(), supplied: None };
+        records.into_iter().map(request).collect()
+    }
+
+    /// Two records with these real parts: derivative parts the same, and each another.
+    fn pairs(&mut self, [first, second]: [u8; 2]) -> [Vec<Vec<u8>>; 2] {
+        let slopes: Vec<u8> = (0..self.parts).map(|_| self.slope()).collect();
+        let one = self.with(first, |part| slopes[part]);
+        let same = self.with(second, |part| slopes[part]);
+        let other = self.with(second, |part| slopes[part].wrapping_add(1));
+        [vec![one.clone(), same], vec![one, other]]
+    }
+
+    fn with(&self, real: u8, slope: impl Fn(usize) -> u8) -> Vec<u8> {
+        (0..self.parts).map(|part| if part == 0 { real } else { slope(part) }).collect()
+    }
+
     fn request(&mut self, i: usize, own: bool) -> Request {
         let first = pool::EDGES.end;
         let mut records: Vec<Vec<u8>> =
@@ -119,6 +154,20 @@ impl Maker<'_> {
         }
     }
 }
+
+/// Real parts, as places of edges, that are equal or next to it: 1, zeros of either sign, NaN,
+/// infinities, subnormals, neighbours.
+#[rustfmt::skip]
+const PAIRS: [[u8; 2]; 16] = [
+    [2, 2], [0, 0], [0, 1], [1, 0], [1, 1], [14, 14], [14, 2], [2, 14],
+    [12, 12], [13, 13], [12, 13], [13, 12], [4, 4], [4, 5], [2, 23], [23, 2],
+];
+
+/// Real parts about 0 and 1, as places of edges: 0, -0, 1, -1, subnormals, NaN, 1's neighbours.
+const TESTED: [u8; 10] = [0, 1, 2, 3, 4, 5, 6, 14, 22, 23];
+
+/// All derivative parts 0, -0, 1, infinite or NaN, as places of edges.
+const SLOPES: [u8; 5] = [0, 1, 2, 12, 14];
 
 /// Those beyond 1,024 either way the port refuses with 5.
 #[rustfmt::skip]

@@ -2,6 +2,7 @@
 // speak of what is read, so these functions are proved safe and no more.
 //
 // A file of answers holds hex words apart by spaces and newlines; a line that starts with # is passed over.
+pub mod compare;
 pub mod matrices;
 pub mod records;
 pub mod tables;

@@ -47,8 +47,6 @@ pub(crate) fn shape_of(function: u64) -> Shape {
         0x04 => Shape::new(0, 1, 1),
         0x09..=0x0c | 0x17 => Shape::new(2, 0, 1),
         0x0e..=0x12 => Shape::new(1, 1, 1),
-        0x13 => Shape::new(2, 0, 0),
-        0x14 => Shape::new(1, 0, 0),
         0x1b..=0x1c | 0x20 | 0x22 | 0x26..=0x27 | 0x29 | 0x2e..=0x30 | 0x34..=0x36 => {
             Shape::new(1, 2, 1)
         }
@@ -57,6 +55,8 @@ pub(crate) fn shape_of(function: u64) -> Shape {
         0x2d | 0x38 => Shape::new(2, 2, 1),
         0x37 => Shape::new(3, 0, 1),
         0x39..=0x3a => Shape::run(),
+        0x3b..=0x3f => Shape::new(2, 0, 0),
+        0x40..=0x43 => Shape::new(1, 0, 0),
         _ => Shape::new(1, 0, 1),
     }
 }

@@ -1,8 +1,9 @@
 // What `Dual3` answers to a case, by its function's number (oracle/README.md).
 use dual3::Dual3;
 use dual3::Dual3Answer;
+use replay::compare;
+use replay::compare::Answer;
 use replay::records;
-use replay::records::Answer;
 use replay::tables;
 use replay::tables::Request;
 
@@ -23,13 +24,13 @@ fn parts(x: Dual3) -> [f64; 8] {
 }
 
 fn of_record(x: Dual3) -> Answer {
-    records::of_record(parts(x))
+    compare::of_record(parts(x))
 }
 
 fn of_answer(answer: Dual3Answer) -> Answer {
     match answer {
         Dual3Answer::Value(x) => of_record(x),
-        Dual3Answer::Refused(n) => records::of_refusal(n),
+        Dual3Answer::Refused(n) => compare::of_refusal(n),
     }
 }
 
@@ -37,10 +38,10 @@ fn constructor(function: u64, x: Dual3, a: f64) -> Answer {
     match function {
         0x01 => of_record(Dual3::zero()),
         0x02 => of_record(Dual3::one()),
-        0x03 => records::of_number(Dual3::NDERIV as u64),
+        0x03 => compare::of_number(Dual3::NDERIV as u64),
         0x04 => of_record(Dual3::from_re(a)),
         0x05 => of_record(x.derivative()),
-        _ => records::no_answer(),
+        _ => compare::no_answer(),
     }
 }
 
@@ -56,22 +57,23 @@ fn operator(function: u64, x: Dual3, y: Dual3, a: f64) -> Answer {
         0x10 => of_record(x.add_float(a)),
         0x11 => of_record(x.sub_float(a)),
         0x12 => of_record(x.scale(a)),
-        _ => records::no_answer(),
+        _ => compare::no_answer(),
     }
 }
 
-fn comparisons(x: Dual3, y: Dual3) -> Answer {
-    records::of_number(
-        records::flag(x.eq(y), 1)
-            | records::flag(x.lt(y), 2)
-            | records::flag(x.le(y), 4)
-            | records::flag(x.gt(y), 8)
-            | records::flag(x.ge(y), 16),
-    )
-}
-
-fn signs(x: Dual3) -> Answer {
-    records::of_number(records::flag(x.is_negative(), 1) | records::flag(x.is_positive(), 2))
+fn test(function: u64, x: Dual3, y: Dual3) -> Answer {
+    match function {
+        0x3b => compare::of_truth(x.eq(y)),
+        0x3c => compare::of_truth(x.lt(y)),
+        0x3d => compare::of_truth(x.le(y)),
+        0x3e => compare::of_truth(x.gt(y)),
+        0x3f => compare::of_truth(x.ge(y)),
+        0x40 => compare::of_truth(x.is_negative()),
+        0x41 => compare::of_truth(x.is_positive()),
+        0x42 => compare::of_truth(x.is_zero()),
+        0x43 => compare::of_truth(x.is_one()),
+        _ => compare::no_answer(),
+    }
 }
 
 // The functions that are no request, or are one and a method too.
@@ -86,20 +88,20 @@ fn method(function: u64, x: Dual3, y: Dual3, a: f64, b: f64) -> Answer {
         0x28 => sin_cos(x, a, b),
         0x2d => of_record(x.atan2(y, a, b)),
         0x38 => of_record(x.powd(y, a, b)),
-        _ => records::no_answer(),
+        _ => compare::no_answer(),
     }
 }
 
 fn sin_cos(x: Dual3, sin: f64, cos: f64) -> Answer {
     let r = x.sin_cos(sin, cos);
-    records::of_records(parts(r.sin), parts(r.cos), PARTS)
+    compare::of_records(parts(r.sin), parts(r.cos), PARTS)
 }
 
 fn request(function: u64, x: Dual3, first: u64, second: u64) -> Answer {
     let request = tables::request_of(function, first, second);
     match request {
         Request::Is(f) => of_answer(x.apply(f)),
-        Request::Not => records::no_answer(),
+        Request::Not => compare::no_answer(),
     }
 }
 
@@ -114,9 +116,7 @@ pub(crate) fn answer(line: &[u64; 32], floats: &[f64; 96]) -> Answer {
     match function {
         0x01..=0x08 => constructor(function, x, a),
         0x09..=0x12 => operator(function, x, y, a),
-        0x13 => comparisons(x, y),
-        0x14 => signs(x),
-        0x18..=0x1a => records::both(
+        0x18..=0x1a => compare::both(
             method(function, x, y, a, b),
             request(function, x, first, second),
         ),
@@ -124,6 +124,7 @@ pub(crate) fn answer(line: &[u64; 32], floats: &[f64; 96]) -> Answer {
         0x37 => of_record(x.mul_add(y, record_at(floats, 2 * PARTS))),
         0x39 => of_answer(dual3::sum(records::run_of(floats, line[records::LENGTH]))),
         0x3a => of_answer(dual3::product(records::run_of(floats, line[records::LENGTH]))),
+        0x3b..=0x43 => test(function, x, y),
         _ => request(function, x, first, second),
     }
 }

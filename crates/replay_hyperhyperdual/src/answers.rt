@@ -1,8 +1,9 @@
 // What `HyperHyperDual` answers to a case, by its function's number (oracle/README.md).
 use hyperhyperdual::HyperHyperDual;
 use hyperhyperdual::HyperHyperDualAnswer;
+use replay::compare;
+use replay::compare::Answer;
 use replay::records;
-use replay::records::Answer;
 use replay::tables;
 use replay::tables::Request;
 
@@ -36,13 +37,13 @@ fn parts(x: HyperHyperDual) -> [f64; 8] {
 }
 
 fn of_record(x: HyperHyperDual) -> Answer {
-    records::of_record(parts(x))
+    compare::of_record(parts(x))
 }
 
 fn of_answer(answer: HyperHyperDualAnswer) -> Answer {
     match answer {
         HyperHyperDualAnswer::Value(x) => of_record(x),
-        HyperHyperDualAnswer::Refused(n) => records::of_refusal(n),
+        HyperHyperDualAnswer::Refused(n) => compare::of_refusal(n),
     }
 }
 
@@ -50,12 +51,12 @@ fn constructor(function: u64, x: HyperHyperDual, a: f64) -> Answer {
     match function {
         0x01 => of_record(HyperHyperDual::zero()),
         0x02 => of_record(HyperHyperDual::one()),
-        0x03 => records::of_number(HyperHyperDual::NDERIV as u64),
+        0x03 => compare::of_number(HyperHyperDual::NDERIV as u64),
         0x04 => of_record(HyperHyperDual::from_re(a)),
         0x06 => of_record(x.derivative1()),
         0x07 => of_record(x.derivative2()),
         0x08 => of_record(x.derivative3()),
-        _ => records::no_answer(),
+        _ => compare::no_answer(),
     }
 }
 
@@ -71,22 +72,23 @@ fn operator(function: u64, x: HyperHyperDual, y: HyperHyperDual, a: f64) -> Answ
         0x10 => of_record(x.add_float(a)),
         0x11 => of_record(x.sub_float(a)),
         0x12 => of_record(x.scale(a)),
-        _ => records::no_answer(),
+        _ => compare::no_answer(),
     }
 }
 
-fn comparisons(x: HyperHyperDual, y: HyperHyperDual) -> Answer {
-    records::of_number(
-        records::flag(x.eq(y), 1)
-            | records::flag(x.lt(y), 2)
-            | records::flag(x.le(y), 4)
-            | records::flag(x.gt(y), 8)
-            | records::flag(x.ge(y), 16),
-    )
-}
-
-fn signs(x: HyperHyperDual) -> Answer {
-    records::of_number(records::flag(x.is_negative(), 1) | records::flag(x.is_positive(), 2))
+fn test(function: u64, x: HyperHyperDual, y: HyperHyperDual) -> Answer {
+    match function {
+        0x3b => compare::of_truth(x.eq(y)),
+        0x3c => compare::of_truth(x.lt(y)),
+        0x3d => compare::of_truth(x.le(y)),
+        0x3e => compare::of_truth(x.gt(y)),
+        0x3f => compare::of_truth(x.ge(y)),
+        0x40 => compare::of_truth(x.is_negative()),
+        0x41 => compare::of_truth(x.is_positive()),
+        0x42 => compare::of_truth(x.is_zero()),
+        0x43 => compare::of_truth(x.is_one()),
+        _ => compare::no_answer(),
+    }
 }
 
 // The functions that are no request, or are one and a method too.
@@ -101,20 +103,20 @@ fn method(function: u64, x: HyperHyperDual, y: HyperHyperDual, a: f64, b: f64) -
         0x28 => sin_cos(x, a, b),
         0x2d => of_record(x.atan2(y, a, b)),
         0x38 => of_record(x.powd(y, a, b)),
-        _ => records::no_answer(),
+        _ => compare::no_answer(),
     }
 }
 
 fn sin_cos(x: HyperHyperDual, sin: f64, cos: f64) -> Answer {
     let r = x.sin_cos(sin, cos);
-    records::of_records(parts(r.sin), parts(r.cos), PARTS)
+    compare::of_records(parts(r.sin), parts(r.cos), PARTS)
 }
 
 fn request(function: u64, x: HyperHyperDual, first: u64, second: u64) -> Answer {
     let request = tables::request_of(function, first, second);
     match request {
         Request::Is(f) => of_answer(x.apply(f)),
-        Request::Not => records::no_answer(),
+        Request::Not => compare::no_answer(),
     }
 }
 
@@ -129,9 +131,7 @@ pub(crate) fn answer(line: &[u64; 32], floats: &[f64; 96]) -> Answer {
     match function {
         0x01..=0x08 => constructor(function, x, a),
         0x09..=0x12 => operator(function, x, y, a),
-        0x13 => comparisons(x, y),
-        0x14 => signs(x),
-        0x18..=0x1a => records::both(
+        0x18..=0x1a => compare::both(
             method(function, x, y, a, b),
             request(function, x, first, second),
         ),
@@ -139,6 +139,7 @@ pub(crate) fn answer(line: &[u64; 32], floats: &[f64; 96]) -> Answer {
         0x37 => of_record(x.mul_add(y, record_at(floats, 2 * PARTS))),
         0x39 => of_answer(hyperhyperdual::sum(records::run_of(floats, line[records::LENGTH]))),
         0x3a => of_answer(hyperhyperdual::product(records::run_of(floats, line[records::LENGTH]))),
+        0x3b..=0x43 => test(function, x, y),
         _ => request(function, x, first, second),
     }
 }

@@ -2,6 +2,7 @@
 mod answers;
 
 use replay::Place;
+use replay::compare;
 use replay::records;
 
 // One case.
@@ -10,7 +11,7 @@ fn case(
     buffer: &mut [u8; 4096],
     place: Place,
     pool: &[u64; 256],
-    counts: &mut [u64; 128],
+    counts: &mut [u64; 256],
 ) -> Place {
     let mut line = [0u64; 32];
     let mut floats = [0.0f64; 96];
@@ -24,12 +25,12 @@ fn case(
         answers::PARTS,
     );
     let got = answers::answer(&line, &floats);
-    records::count(counts, &line, read.whole, got, answers::PARTS);
+    compare::count(counts, &line, read.whole, got, answers::PARTS);
     read.place
 }
 
 // All the cases of a file.
-fn cases(file: i32, counts: &mut [u64; 128]) {
+fn cases(file: i32, counts: &mut [u64; 256]) {
     let mut buffer = [0u8; 4096];
     let mut pool = [0u64; 256];
     let head = records::read_head(file, &mut buffer, &mut pool);
@@ -39,7 +40,7 @@ fn cases(file: i32, counts: &mut [u64; 128]) {
         here = case(file, &mut buffer, here, &pool, counts);
         turns -= 1;
     }
-    records::count_rest(file, &mut buffer, here, counts);
+    compare::count_rest(file, &mut buffer, here, counts);
 }
 
 // Replays a file, and reports it by a name.
@@ -49,10 +50,10 @@ fn replay_file(path: &[u8], name: &[u8]) {
         os::fail(path);
         return;
     }
-    let mut counts = [0u64; 128];
+    let mut counts = [0u64; 256];
     cases(file, &mut counts);
     libc::close(file);
-    records::report(name, &counts);
+    compare::report(name, &counts);
 }
 
 fn main() {

@@ -17,6 +17,8 @@ pub(super) fn rows() -> Vec<Row> {
 fn signs() -> Vec<Row> {
     let negative_nan = f64::from_bits(0xfff8000000000000);
     let computed = dual(INF, 1.0) - dual(INF, 2.0);
+    // The NaN's sign is set on x86-64 and not on Arm.
+    let computed_slope = if cfg!(target_arch = "x86_64") { 1.0 } else { -1.0 };
     vec![
         row(
             "1",
@@ -28,7 +30,7 @@ fn signs() -> Vec<Row> {
         row(
             "1",
             "abs of (inf, 1) - (inf, 2), computed at run time",
-            &[NAN, 1.0],
+            &[NAN, computed_slope],
             &computed.abs().parts(),
         ),
         row(

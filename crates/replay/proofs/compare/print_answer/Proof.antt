@@ -1,8 +1,8 @@
--- `replay::records::print_answer` stays within its arrays and ends. Assumes nothing.
+-- `replay::compare::print_answer` stays within its arrays and ends. Assumes nothing.
 use Prim.Native.Nat.{_≤_, _-_}
 use borrow.Author.Needs.{needs}
-use Rattle.replay.proofs.records.print_answer.Statement.{statement}
-use Rattle.replay.proofs.records.print_answer.Tie as tie
+use Rattle.replay.proofs.compare.print_answer.Statement.{statement}
+use Rattle.replay.proofs.compare.print_answer.Tie as tie
 
 abbrev Inv-loop : tie.InvT-loop
 Inv-loop count words end i₀ t6 i = i ≤ end

@@ -1,8 +1,8 @@
--- `replay::records::put_words` stays within its arrays and ends. Assumes nothing.
+-- `replay::compare::put_words` stays within its arrays and ends. Assumes nothing.
 use Prim.Native.Nat.{_≤_, _-_}
 use borrow.Author.Needs.{needs}
-use Rattle.replay.proofs.records.put_words.Statement.{statement}
-use Rattle.replay.proofs.records.put_words.Tie as tie
+use Rattle.replay.proofs.compare.put_words.Statement.{statement}
+use Rattle.replay.proofs.compare.put_words.Tie as tie
 
 abbrev Inv-loop : tie.InvT-loop
 Inv-loop words₀ from floats i₀ words i = i ≤ 8

@@ -1,14 +1,14 @@
--- `replay::records::report` stays within its arrays and ends. Assumes nothing.
+-- `replay::compare::report` stays within its arrays and ends. Assumes nothing.
 use Prim.Native.Nat.{_≤_, _-_}
 use borrow.Author.Needs.{needs}
-use Rattle.replay.proofs.records.report.Statement.{statement}
-use Rattle.replay.proofs.records.report.Tie as tie
+use Rattle.replay.proofs.compare.report.Statement.{statement}
+use Rattle.replay.proofs.compare.report.Tie as tie
 
 abbrev Inv-loop : tie.InvT-loop
-Inv-loop name counts sum₀ at₀ t6 sum at = at ≤ 64
+Inv-loop name counts sum₀ at₀ t6 sum at = at ≤ 128
 
 abbrev μ-loop : tie.MeasureT-loop
-μ-loop name counts sum₀ at₀ t6 sum at = 64 - at
+μ-loop name counts sum₀ at₀ t6 sum at = 128 - at
 
 new-requires : tie.Need-new-requires Inv-loop μ-loop
 new-requires c κs = search needs

@@ -1,8 +1,8 @@
--- `replay::records::wanted` stays within its arrays and ends. Assumes nothing.
+-- `replay::compare::wanted` stays within its arrays and ends. Assumes nothing.
 use Prim.Native.Nat.{_≤_, _-_}
 use borrow.Author.Needs.{needs}
-use Rattle.replay.proofs.records.wanted.Statement.{statement}
-use Rattle.replay.proofs.records.wanted.Tie as tie
+use Rattle.replay.proofs.compare.wanted.Statement.{statement}
+use Rattle.replay.proofs.compare.wanted.Tie as tie
 
 abbrev Inv-loop : tie.InvT-loop
 Inv-loop line words₀ i₀ words i = i ≤ 16

@@ -1,8 +1,8 @@
--- `replay::records::same` stays within its arrays and ends. Assumes nothing.
+-- `replay::compare::same` stays within its arrays and ends. Assumes nothing.
 use Prim.Native.Nat.{_≤_, _-_}
 use borrow.Author.Needs.{needs}
-use Rattle.replay.proofs.records.same.Statement.{statement}
-use Rattle.replay.proofs.records.same.Tie as tie
+use Rattle.replay.proofs.compare.same.Statement.{statement}
+use Rattle.replay.proofs.compare.same.Tie as tie
 
 abbrev Inv-loop : tie.InvT-loop
 Inv-loop a b i₀ i = i ≤ 16
