@@ -1,9 +1,10 @@
 //! What the five records have in common.
-use crate::layout::Floats;
+use crate::layout::{floats, floats_mut, Floats};
 use crate::{supplied, Function, Kind, Refusal};
 use std::fmt::Debug;
 use std::iter::{Product, Sum};
 use std::ops::{Add, AddAssign, Div, DivAssign, Mul, MulAssign, Neg, Sub, SubAssign};
+use std::slice::from_ref;
 
 /// The library's answer to a call with the lengths that it wants.
 #[inline]
@@ -85,6 +86,31 @@ pub trait DualNum:
 
     /// The real part.
     fn re(&self) -> f64;
+
+    /// From its floats, in the order of its fields.
+    ///
+    /// ```
+    /// use evindrast::{Dual64, DualNum};
+    /// let x = Dual64::from_parts(&[2.0, 1.0]).unwrap();
+    /// assert_eq!((x.re, x.eps, x.parts()), (2.0, 1.0, &[2.0, 1.0][..]));
+    /// ```
+    ///
+    /// # Errors
+    /// [`Refusal::WrongLength`] for another number of floats.
+    fn from_parts(parts: &[f64]) -> Result<Self, Refusal> {
+        if parts.len() != Self::PARTS {
+            return Err(Refusal::WrongLength);
+        }
+        let mut record = [Self::ZERO];
+        floats_mut(&mut record).copy_from_slice(parts);
+        let [record] = record;
+        Ok(record)
+    }
+
+    /// Its floats, in the order of its fields.
+    fn parts(&self) -> &[f64] {
+        floats(from_ref(self))
+    }
 
     /// All parts 0.
     #[inline]
