@@ -9,7 +9,8 @@
    - The answer is 0 or the number of a refusal (enum evindrast_number). A call that is refused writes nothing; the one exception is LU's 6. What a buffer
      held before has no effect on a result.
    - No call stops, allocates or keeps anything: every input, length and bit pattern gets an answer, and calls may run at the same time.
-   - A NaN that evindrast_record, evindrast_sum, evindrast_product or evindrast_sqrt_word gives is 7ff8000000000000. A NaN counts as positive.
+   - A NaN counts as positive, whatever its bits. One that evindrast_record or evindrast_sqrt_word gives has the bits 7ff8000000000000; the others' may
+     have any bits of a NaN.
    docs/PROMISES.md names the theorem behind each sentence here. */
 #ifndef EVINDRAST_H
 #define EVINDRAST_H

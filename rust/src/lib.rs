@@ -42,7 +42,7 @@
 //!   `Display`, serde and num-traits' own traits are left out: their methods stand in [`DualNum`].
 //! - [`DualNum::powi`] refuses exponents outside -1,024..1,024.
 //! - [`LU`] and [`jacobi_eigenvalue`] take a [`Matrix`] of at most 32 rows and say why they refuse.
-//! - A NaN is 7ff8000000000000 where it leaves an operation on records, and counts as positive.
+//! - A NaN counts as positive, and is 7ff8000000000000 where it leaves an operation on records.
 //!
 //! # Building
 //! The build script links `target/staticlib/libexports.a` of the repository, which `rt staticlib
