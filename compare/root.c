@@ -1,15 +1,12 @@
 /* The proved square root against the machine's own, bit for bit (NaNs count as one), and the time of each.
    Build and run it with compare/root. */
+#include "evindrast.h"
 #include <inttypes.h>
 #include <math.h>
-#include <stdint.h>
 #include <stdio.h>
 #include <stdlib.h>
 #include <string.h>
 #include <time.h>
-
-double evindrast_sqrt(double x);
-uint64_t evindrast_sqrt_word(uint64_t w);
 
 static double float_of(uint64_t word) { double x; memcpy(&x, &word, 8); return x; }
 static uint64_t word_of(double x) { uint64_t word; memcpy(&word, &x, 8); return word; }

@@ -1,13 +1,8 @@
 /* A reel of a reconstructed cut: cue times on the old print, and where the same lines are heard on the new one. Rate and offset are fitted
    by a 2 by 2 solve over `Dual`; the slope part carries how each heard time moves when the projection rate moves, and so tells how far
    the last subtitle moves. Build and run it with examples/reel. */
-#include <stddef.h>
-#include <stdint.h>
+#include "evindrast.h"
 #include <stdio.h>
-
-/* a record of two doubles: the value, and its slope in the rate; a slice crosses as pointer and length */
-uint32_t evindrast_lu(size_t n, const double *a, size_t a_len, double *factors, size_t factors_len, size_t *order, size_t order_len, size_t *beside);
-uint32_t evindrast_solve(size_t n, const double *factors, size_t factors_len, const size_t *order, size_t order_len, const double *b, size_t b_len, double *x, size_t x_len);
 
 enum { CUES = 5 };
 static const double cue[CUES] = {12.0, 95.5, 301.25, 640.0, 1187.75};       /* seconds on the old print */
@@ -15,7 +10,7 @@ static const double heard[CUES] = {12.9, 99.65, 313.55, 665.6, 1234.9};    /* se
 static const double last = 1421.5;                                         /* the last subtitle, on the old print */
 
 int main(void) {
-    double a[8] = {0}, b[4] = {0}, factors[8], x[4];
+    double a[8] = {0}, b[4] = {0}, factors[8], x[4]; /* records of two: the value, and its slope in the rate */
     size_t order[2], beside;
     for (int i = 0; i < CUES; i++) {
         a[0] += cue[i] * cue[i];
@@ -28,12 +23,12 @@ int main(void) {
         b[3] += cue[i];
     }
     uint32_t number = evindrast_lu(2, a, 8, factors, 8, order, 2, &beside);
-    if (number != 0) {
+    if (number != EVINDRAST_DONE) {
         printf("refused %u at column %zu\n", (unsigned)number, beside);
         return 1;
     }
     number = evindrast_solve(2, factors, 8, order, 2, b, 4, x, 4);
-    if (number != 0) {
+    if (number != EVINDRAST_DONE) {
         printf("refused %u\n", (unsigned)number);
         return 1;
     }

@@ -2,24 +2,14 @@
 //! once both have given the same words. docs/SPEED.md says what is counted.
 mod case;
 mod inputs;
-#[allow(dead_code, unused_imports)]
-#[path = "../../../oracle/src/original.rs"]
-mod original;
-mod port;
-#[allow(dead_code)]
-#[path = "../../../oracle/src/random.rs"]
-mod random;
+mod records;
 mod timing;
-#[allow(dead_code)]
-#[path = "../../../oracle/src/words.rs"]
-mod words;
 
 use case::{Case, LIMIT};
+use compare::original::linalg::{LU, jacobi_eigenvalue};
+use compare::random::Random;
+use evindrast::exports as port;
 use inputs::{Input, Square};
-use original::linalg::{LU, jacobi_eigenvalue};
-// `linalg.rs` names them at the root.
-use original::{DualNum, DualNumFloat};
-use random::Random;
 use std::hint::black_box;
 use timing::{Times, in_turn};
 
@@ -39,11 +29,17 @@ fn main() {
     roots
         .iter()
         .for_each(|x| assert_eq!(port::sqrt(*x).to_bits(), x.sqrt().to_bits(), "root of {x}"));
-    println!("{} words compared, 0 different", compared + roots.len());
+    let pairs = records::all(&mut random);
+    let compared = compared + roots.len() + pairs.iter().map(|pair| pair.compared).sum::<usize>();
+    println!("{compared} words compared, 0 different");
 
     println!("| function | n | port, ns | Rust, ns | ratio | half of the runs | fastest runs |");
     println!("|---|---:|---:|---:|---:|---|---:|");
     print("root", "", &root(&roots));
+    for pair in pairs {
+        print(&format!("product, {}", pair.name), "", &(pair.product)());
+        print(&format!("quotient, {}", pair.name), "", &(pair.quotient)());
+    }
     for (name, times) in FUNCTIONS {
         cases.iter().for_each(|cases| print(name, &cases[0].n.to_string(), &times(cases)));
     }

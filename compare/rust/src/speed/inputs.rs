@@ -1,6 +1,6 @@
 //! The inputs, each in the port's form and in the Rust's.
-use crate::original::Dual;
-use crate::random::Random;
+use compare::original::Dual;
+use compare::random::Random;
 use nalgebra::{Dyn, OMatrix, OVector, U1};
 
 pub type Entry = Dual<f64>;

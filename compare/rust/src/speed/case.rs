@@ -1,8 +1,8 @@
 //! One input in both forms, and whether both sides give the same words for it.
 use crate::inputs::{Column, Entry, Input, Square, column, flat, square};
-use crate::original::linalg::{LU, jacobi_eigenvalue};
-use crate::port;
-use crate::words::words;
+use compare::original::linalg::{LU, jacobi_eigenvalue};
+use compare::words::words;
+use evindrast::exports as port;
 use nalgebra::Dyn;
 
 /// Sweeps at most.

@@ -1,0 +1,100 @@
+//! Why a call was refused.
+use std::fmt;
+
+/// The refusals of the library, by the project's numbers. Nothing was written by a refused call.
+#[derive(Copy, Clone, Debug, PartialEq, Eq)]
+#[non_exhaustive]
+pub enum Refusal {
+    /// 1: a matrix of more than 32 rows.
+    TooLarge,
+    /// 2: a length is not the one wanted.
+    WrongLength,
+    /// 3: Jacobi of an empty matrix.
+    Empty,
+    /// 4: a sweep limit above 1,000.
+    LimitTooLarge,
+    /// 5: a `powi` exponent outside -1,024..1,024.
+    ExponentTooLarge,
+    /// 6: no pivot of this column exceeds zero.
+    Singular {
+        /// The column, from 0.
+        column: usize,
+    },
+    /// 7: an order of rows that is not a permutation of 0..n-1.
+    NotAnOrder,
+    /// 8: a swap count above 32, or of the other parity than the order.
+    WrongSwaps,
+}
+
+impl Refusal {
+    /// The refusal's number.
+    pub fn number(self) -> u32 {
+        match self {
+            Refusal::TooLarge => 1,
+            Refusal::WrongLength => 2,
+            Refusal::Empty => 3,
+            Refusal::LimitTooLarge => 4,
+            Refusal::ExponentTooLarge => 5,
+            Refusal::Singular { .. } => 6,
+            Refusal::NotAnOrder => 7,
+            Refusal::WrongSwaps => 8,
+        }
+    }
+
+    /// Done, or the refusal of this number; the column is read at 6 alone.
+    pub(crate) fn check(number: u32, column: usize) -> Result<(), Refusal> {
+        match number {
+            0 => Ok(()),
+            1 => Err(Refusal::TooLarge),
+            2 => Err(Refusal::WrongLength),
+            3 => Err(Refusal::Empty),
+            4 => Err(Refusal::LimitTooLarge),
+            5 => Err(Refusal::ExponentTooLarge),
+            6 => Err(Refusal::Singular { column }),
+            7 => Err(Refusal::NotAnOrder),
+            8 => Err(Refusal::WrongSwaps),
+            _ => unreachable!("the library promises no answer {number}"),
+        }
+    }
+}
+
+impl fmt::Display for Refusal {
+    fn fmt(&self, f: &mut fmt::Formatter) -> fmt::Result {
+        let reason = match self {
+            Refusal::TooLarge => "a matrix has at most 32 rows",
+            Refusal::WrongLength => "a length is not the one wanted",
+            Refusal::Empty => "an empty matrix has no eigenvalues",
+            Refusal::LimitTooLarge => "at most 1,000 sweeps may be asked for",
+            Refusal::ExponentTooLarge => "powi's exponent is outside -1,024..1,024",
+            Refusal::Singular { column } => {
+                return write!(f, "refused 6: the matrix is singular at column {column}")
+            }
+            Refusal::NotAnOrder => "the order is not a permutation of the rows",
+            Refusal::WrongSwaps => "the swap count does not fit the order",
+        };
+        write!(f, "refused {}: {reason}", self.number())
+    }
+}
+
+impl std::error::Error for Refusal {}
+
+#[cfg(test)]
+mod tests {
+    use super::*;
+
+    #[test]
+    fn numbers_go_both_ways() {
+        assert_eq!(Refusal::check(0, 5), Ok(()));
+        for number in 1..=8 {
+            assert_eq!(Refusal::check(number, 5).map_err(Refusal::number), Err(number));
+        }
+        assert_eq!(Refusal::check(6, 5), Err(Refusal::Singular { column: 5 }));
+    }
+
+    #[test]
+    fn a_refusal_names_its_number_and_column() {
+        let text = Refusal::Singular { column: 3 }.to_string();
+        assert_eq!(text, "refused 6: the matrix is singular at column 3");
+        assert!(Refusal::ExponentTooLarge.to_string().starts_with("refused 5: "));
+    }
+}

@@ -1,0 +1,82 @@
+//! The C header and this crate give everything the same number.
+use evindrast::{Dual2_64, Dual3_64, Dual64, DualNum, Function, HyperDual64, HyperHyperDual64};
+use evindrast::{Kind, Refusal};
+use std::collections::BTreeMap;
+
+const HEADER: &str = include_str!("../../include/evindrast.h");
+
+/// The header's names without their prefix, in this crate's spelling, with their numbers.
+fn numbers(of: &str) -> BTreeMap<String, u32> {
+    let start = HEADER.find(&format!("enum {of} {{")).expect("the enum");
+    let body = &HEADER[start..start + HEADER[start..].find("};").expect("its end")];
+    let line = |line: &str| {
+        let (name, number) = line.trim().strip_prefix("EVINDRAST_")?.split_once(" = ")?;
+        let digits = number.split(|c: char| !c.is_ascii_alphanumeric()).next()?;
+        let number = match digits.strip_prefix("0x") {
+            Some(hex) => u32::from_str_radix(hex, 16),
+            None => digits.parse(),
+        };
+        Some((camel(name), number.expect("a number")))
+    };
+    body.lines().filter_map(line).collect()
+}
+
+/// MUL_FLOAT is `MulFloat`.
+fn camel(name: &str) -> String {
+    let word = |word: &str| word[..1].to_string() + &word[1..].to_lowercase();
+    name.split('_').map(word).collect()
+}
+
+#[test]
+fn functions() {
+    let mut wanted = BTreeMap::new();
+    for function in Function::ALL {
+        wanted.insert(format!("{function:?}"), *function as u32);
+    }
+    assert_eq!(numbers("evindrast_function"), wanted);
+}
+
+#[test]
+fn kinds() {
+    let kind = |name: &str| numbers("evindrast_kind")[name];
+    assert_eq!(kind("Dual"), Kind::Dual as u32);
+    assert_eq!(kind("Dual2"), Kind::Dual2 as u32);
+    assert_eq!(kind("Dual3"), Kind::Dual3 as u32);
+    assert_eq!(kind("Hyperdual"), Kind::HyperDual as u32);
+    assert_eq!(kind("Hyperhyperdual"), Kind::HyperHyperDual as u32);
+}
+
+#[test]
+fn floats() {
+    let floats = |name: &str| -> usize {
+        let start = format!("#define EVINDRAST_{name}_FLOATS ");
+        let line = HEADER.lines().find_map(|line| line.strip_prefix(&start)).expect("the line");
+        line.parse().expect("a number")
+    };
+    assert_eq!(floats("DUAL"), Dual64::PARTS);
+    assert_eq!(floats("DUAL2"), Dual2_64::PARTS);
+    assert_eq!(floats("DUAL3"), Dual3_64::PARTS);
+    assert_eq!(floats("HYPERDUAL"), HyperDual64::PARTS);
+    assert_eq!(floats("HYPERHYPERDUAL"), HyperHyperDual64::PARTS);
+}
+
+#[test]
+fn refusals() {
+    let refusals = [
+        Refusal::TooLarge,
+        Refusal::WrongLength,
+        Refusal::Empty,
+        Refusal::LimitTooLarge,
+        Refusal::ExponentTooLarge,
+        Refusal::Singular { column: 0 },
+        Refusal::NotAnOrder,
+        Refusal::WrongSwaps,
+    ];
+    let mut wanted = BTreeMap::from([("Done".to_string(), 0)]);
+    for refusal in refusals {
+        let name = format!("{refusal:?}");
+        let name = name.split(' ').next().expect("a name").to_string();
+        wanted.insert(name, refusal.number());
+    }
+    assert_eq!(numbers("evindrast_number"), wanted);
+}
