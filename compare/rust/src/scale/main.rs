@@ -1,6 +1,7 @@
 //! The port, through its static library and the crate over it, against the original Rust in one
 //! process: `scale CASES SEED` compares so many cases of each function of each record, and of each
-//! matrix function, and prints what was compared and what differed. All NaNs count as one.
+//! matrix function, and prints what was compared and what differed. All NaNs of the Rust count as
+//! one.
 mod counts;
 mod matrices;
 mod port;

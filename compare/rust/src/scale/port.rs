@@ -1,7 +1,8 @@
 //! The port's answers, by the methods and operators of its crate.
+// the references are forms that are compared
+#![allow(clippy::op_ref)]
 use crate::counts::Answer;
 use compare::functions::{Argument, Description, Extra, Function, Shape};
-use compare::words::words;
 use evindrast::{
     Dual2_64, Dual3_64, Dual64, DualNum, HyperDual64, HyperHyperDual64, Refusal, supplied,
 };
@@ -164,8 +165,9 @@ fn numbered(function: Function) -> evindrast::Function {
     *evindrast::Function::ALL.iter().find(same).expect("the port has this function")
 }
 
-pub fn parts<D: Port>(record: D) -> Vec<u64> {
-    words(record.parts())
+/// The bits as they are: the port promises one NaN, 7ff8000000000000.
+fn parts<D: Port>(record: D) -> Vec<u64> {
+    record.parts().iter().map(|x| x.to_bits()).collect()
 }
 
 /// The one answer of several forms of an operation.

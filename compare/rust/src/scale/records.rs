@@ -121,8 +121,8 @@ fn runs<K: Kind, D: Port>(counts: &mut Counts, random: &mut Random, pool: &Pool,
             } else {
                 (mine.sum::<D>(), theirs.sum::<K::Record<f64>>())
             };
-            let rust = Ok(words(&theirs.parts()));
-            cell.case(&Ok(port::parts(mine)), &rust, || hex(&words(&parts.concat())));
+            let (mine, theirs) = (Ok(words(mine.parts())), Ok(words(&theirs.parts())));
+            cell.case(&mine, &theirs, || hex(&words(&parts.concat())));
         }
     }
 }
