@@ -1,19 +1,21 @@
 -- Laws of matrices over any record; those that the crates of the entries cite are public.
 -- lists: what a filling loop has passed, what is left of a list
-mod Fill
+pub mod Fill
 mod Rest
 pub mod Odd
 -- places of a square matrix in flat floats
 pub mod Places
 -- LU: its columns case by case
 pub mod Lu
--- the order: permutations and parity
+-- the order: permutations and parity, and their tests in one pass
 pub mod Permutation
+mod Marks
 pub mod Parity
 -- slopes never steer
 pub mod Slopes
 -- rows of floats are rows of records
 pub mod RowsOfRecords
--- for the code over a record: its inner loops, and the two ways out of an entry
+-- for the code over a record: its inner loops, the starts of solve and inverse, and the two ways out of an entry
 pub mod Inner
+pub mod Starts
 pub mod Answers
