@@ -11,6 +11,7 @@ mod Squares
 mod Newton
 mod OneDivision
 mod Rounded
+mod Bounds
 mod NearUnits
 mod Patterns
 mod Ends

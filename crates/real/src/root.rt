@@ -1,4 +1,5 @@
 // The inside of the square root, over whole numbers: 64-bit arithmetic only.
+use crate::guess;
 ghost use mathlib.Core.Path.{_≡_};
 ghost use mathlib.Core.Bool.{false, not};
 ghost use Prim.Native.Nat.{_+_, _*_, _%_, _^_, _≤_, _<_};
@@ -9,6 +10,9 @@ ghost use Rattle.real.specs.Root.{sqrtOf};
 
 // The weight of an f64's leading digit, and of its exponent's field.
 const HIDDEN: u64 = 0x10_0000_0000_0000;
+
+// Half of the last digit of `last_step`, and a little more: the guess is a little low.
+const HALF: u64 = 0x40_8000_0000;
 
 // The pattern of +infinity: the patterns of the positive finite floats lie between 0 and it.
 pub(crate) const INFINITY: u64 = 0x7ff0_0000_0000_0000;
@@ -69,6 +73,65 @@ pub(crate) fn rounded_root(a: u64) -> u64
     if w.q < w.rest { w.q + 1 } else { w.q }
 }
 
+// s * 2^22 + q where that is the whole number nearest to the root of (s * s + left) * 2^44, else 0. With r for it, what r * r leaves of that number
+// is (left * 2^21 - s * q) * 2^23 - q * q; to stay above zero, both sides have 2 * (r - q) = s * 2^23 added.
+pub(crate) fn settled(s: u64, left: u64, q: u64) -> u64
+    requires { ⌜ (s < 2 ^ 31) × (left < 2 ^ 34) × (q < 2 ^ 26) ⌝ }
+    ensures { λ r. ⌜ (0 < r → (r * r < (s * s + left) * 2 ^ 44 + r) × ((s * s + left) * 2 ^ 44 ≤ r * r + r)) ⌝ }
+{
+    let full = left * 0x20_0000 + s;
+    let taken = s * q;
+    if full < taken {
+        return 0;
+    }
+    let gap = full - taken;
+    if 0x2_0000_0000 <= gap {
+        return 0;
+    }
+    let room = gap * 0x80_0000 + 2 * q;
+    let square = q * q;
+    let r = s * 0x40_0000 + q;
+    if room <= square + r {
+        return 0;
+    }
+    if square + 3 * r < room {
+        return 0;
+    }
+    r
+}
+
+// The whole number nearest to the root of a * 2^52, from a guess at the root of a * 2^8 and its inverse; 0 where the guess is not good enough.
+pub(crate) fn last_step(a: u64, s: u64, y: u64) -> u64
+    requires { ⌜ a < 2 ^ 54 ⌝ }
+    ensures { λ r. ⌜ (0 < r → (r * r < a * 2 ^ 52 + r) × (a * 2 ^ 52 ≤ r * r + r)) ⌝ }
+{
+    if 0x8000_0000 <= s {
+        return 0;
+    }
+    if 0x4000_0000 <= y {
+        return 0;
+    }
+    let top = a * 256;
+    let square = s * s;
+    if top < square {
+        return 0;
+    }
+    let left = top - square;
+    if 0x3_ff00_0000 <= left {
+        return 0;
+    }
+    settled(s, left, (left * y + HALF) / 0x80_0000_0000)
+}
+
+// The same from any guess: where it is not good enough, in some cases of a thousand, by the whole root.
+pub(crate) fn nearest_root(a: u64, near: guess::Guess) -> u64
+    requires { ⌜ (2 ^ 52 ≤ a) × (a + 1 < 2 ^ 54) ⌝ }
+    ensures { λ r. ⌜ (r * r < a * 2 ^ 52 + r) × (a * 2 ^ 52 ≤ r * r + r) × (r < 2 ^ 53) ⌝ }
+{
+    let r = last_step(a, near.root, near.inverse);
+    if r == 0 { rounded_root(a) } else { r }
+}
+
 // A number a * 2^(e - 1126) whose a has 53 digits.
 pub(crate) struct Scaled {
     pub a: u64,
@@ -110,6 +173,7 @@ pub(crate) fn root_bits(b: u64) -> u64
     ensures { λ r. ⌜ T (not (nanBits binary64 r)) × (ofBits binary64 r ≡ sqrtOf (ofBits binary64 b)) ⌝ }
 {
     let s = scale(b);
-    let r = rounded_root(even(s.a, s.e));
+    let a = even(s.a, s.e);
+    let r = nearest_root(a, guess::guess_of(s.a, s.e % 2));
     (485 + s.e / 2) * HIDDEN + r
 }

@@ -4,8 +4,9 @@ use Rattle.real.proofs.root.root_bits.Statement.{statement}
 use Rattle.real.proofs.root.root_bits.Tie as tie
 use Rattle.real.proofs.root.root_bits.Reads as reads
 use Rattle.real.proofs.root.root_bits.Lts as lts
+use Rattle.real.proofs.guess.guess_of.Reads as guess-of-reads
 use Rattle.real.proofs.root.even.Reads as even-reads
-use Rattle.real.proofs.root.rounded_root.Reads as rounded-root-reads
+use Rattle.real.proofs.root.nearest_root.Reads as nearest-root-reads
 use Rattle.real.proofs.root.scale.Reads as scale-reads
 
 scale-requires : tie.Need-scale-requires
@@ -14,8 +15,11 @@ scale-requires c κs = search needs
 even-requires : tie.Need-even-requires
 even-requires c κs = search needs
 
-rounded-root-requires : tie.Need-rounded-root-requires
-rounded-root-requires c κs = search needs
+guess-of-requires : tie.Need-guess-of-requires
+guess-of-requires c κs = search needs
+
+nearest-root-requires : tie.Need-nearest-root-requires
+nearest-root-requires c κs = search needs
 
 add-result : tie.Need-add-result
 add-result c = search needs
@@ -28,11 +32,11 @@ add-result-2 c = search needs
 
 returns : tie.Need-returns
 returns c =
-    let at = c .before .before .before in
-    let s = at .scale in
-    let even = c .before .before .even in
-    let near = c .before .rounded-root in
-    root-pattern (at .before .args .b) (s .result .a) (s .result .e) (even .result) (near .result) (s .ensures) (even .ensures .0) (even .ensures .1) (even .ensures .2) (near .ensures .0) (near .ensures .1) (near .ensures .2)
+    let near = c .before .nearest-root in
+    let at = c .before .before .before .before in
+    let even = at .even in
+    let s = at .before .scale in
+    root-pattern (at .before .before .args .b) (s .result .a) (s .result .e) (even .result) (near .result) (s .ensures) (even .ensures .0) (even .ensures .1) (even .ensures .2) (near .ensures .0) (near .ensures .1) (near .ensures .2)
 
 pub root-bits-spec : {M : Type 1} → statement M
 root-bits-spec =
@@ -40,7 +44,8 @@ root-bits-spec =
     (tie.spec
     scale-requires
     even-requires
-    rounded-root-requires
+    guess-of-requires
+    nearest-root-requires
     add-result
     mul-result
     add-result-2

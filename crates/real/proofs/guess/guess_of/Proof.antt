@@ -1,0 +1,81 @@
+use borrow.Author.Needs.{needs}
+use Prim.Native.Nat.{ℕ, _+_, _-_, _*_, _/_}
+use native.Mathlib.Omega.{arith}
+use Rattle.real.proofs.Bounds.{Step, step-below}
+use Rattle.real.proofs.guess.guess_of.Statement.{statement}
+use Rattle.real.proofs.guess.guess_of.Tie as tie
+use Rattle.real.proofs.guess.guess_of.Reads as reads
+use Rattle.real.proofs.guess.guess_of.Lts as lts
+use Rattle.real.proofs.guess.inverse_root.Reads as inverse-root-reads
+
+-- the products, where inverse_root has answered
+abbrev At : (c : lts.After-inverse-root (inverse-root-reads.Asked, inverse-root-reads.Learnt) reads.Pre reads.Post) → Type 0
+At c =
+    let upper = c .before .args .digits / 1048576 in
+    let m = 1073741824 + c .before .args .odd * 444758425 in
+    let y = c .inverse-root .result in
+    let n = 2147483648 - c .before .args .odd * 628983398 in
+    let scaled = upper * m / 2147483648 in
+    let inverse = y * n / 2147483648 in
+    let root = scaled * y / 4294967296 in
+    Step upper m y n scaled inverse root ((6917529027641081856 - root * inverse) / 2147483648)
+
+at : (c : lts.After-inverse-root (inverse-root-reads.Asked, inverse-root-reads.Learnt) reads.Pre reads.Post) → At c
+at c = step-below _ _ _ _ _ (omega arith) (omega arith) (c .inverse-root .ensures) (omega arith) (omega arith)
+
+inverse-root-requires : tie.Need-inverse-root-requires
+inverse-root-requires c κs = search needs
+
+mul-scaled : tie.Need-mul-scaled
+mul-scaled c = search needs
+
+add-scaled : tie.Need-add-scaled
+add-scaled c = search needs
+
+mul-scaled-2 : tie.Need-mul-scaled-2
+mul-scaled-2 c = let f = at c in omega arith
+
+mul-inverse : tie.Need-mul-inverse
+mul-inverse c = search needs
+
+sub-inverse : tie.Need-sub-inverse
+sub-inverse c = search needs
+
+mul-inverse-2 : tie.Need-mul-inverse-2
+mul-inverse-2 c = let f = at c in omega arith
+
+mul-root : tie.Need-mul-root
+mul-root c = let f = at c in omega arith
+
+mul-step : tie.Need-mul-step
+mul-step c = let f = at c in omega arith
+
+sub-step : tie.Need-sub-step
+sub-step c = let f = at c in omega arith
+
+mul-t11 : tie.Need-mul-t11
+mul-t11 c = let f = at c in omega arith
+
+mul-t10 : tie.Need-mul-t10
+mul-t10 c = let f = at c in omega arith
+
+returns : tie.Need-returns
+returns c = search needs
+
+pub guess-of-spec : {M : Type 1} → statement M
+guess-of-spec =
+    tie.close
+    (tie.spec
+    inverse-root-requires
+    mul-scaled
+    add-scaled
+    mul-scaled-2
+    mul-inverse
+    sub-inverse
+    mul-inverse-2
+    mul-root
+    mul-step
+    sub-step
+    mul-t11
+    mul-t10
+    returns)

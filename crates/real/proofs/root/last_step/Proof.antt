@@ -1,0 +1,58 @@
+use borrow.Author.Needs.{needs}
+use Prim.Native.Nat.{_*_, _-_, _≤_}
+use native.Mathlib.Omega.{arith}
+use Rattle.real.proofs.Bounds.{product}
+use Rattle.real.proofs.root.last_step.Statement.{statement}
+use Rattle.real.proofs.root.last_step.Tie as tie
+use Rattle.real.proofs.root.last_step.Reads as reads
+use Rattle.real.proofs.root.last_step.Lts as lts
+use Rattle.real.proofs.root.settled.Reads as settled-reads
+
+-- what is left of a * 256, times y
+scaled : (c : lts.Else4 (settled-reads.Asked, settled-reads.Learnt) reads.Pre reads.Post) → let at = c .before .before .before .before .args in (at .a * 256 - at .s * at .s) * at .y ≤ 17163091967 * 1073741823
+scaled c = let at = c .before .before .before .before .args in product 17163091967 1073741823 (at .a * 256 - at .s * at .s) (at .y) (omega arith) (omega arith)
+
+returns : tie.Need-returns
+returns c = search needs
+
+returns-2 : tie.Need-returns-2
+returns-2 c = search needs
+
+mul-top : tie.Need-mul-top
+mul-top c = search needs
+
+mul-square : tie.Need-mul-square
+mul-square c = let s = c .before .before .args .s in omega (arith, product 2147483647 2147483647 s s (omega arith) (omega arith))
+
+returns-3 : tie.Need-returns-3
+returns-3 c = search needs
+
+returns-4 : tie.Need-returns-4
+returns-4 c = search needs
+
+mul-settled : tie.Need-mul-settled
+mul-settled c = omega (arith, scaled c)
+
+add-settled : tie.Need-add-settled
+add-settled c = omega (arith, scaled c)
+
+settled-requires : tie.Need-settled-requires
+settled-requires c κs = (omega arith, omega arith, omega (arith, scaled c))
+
+returns-5 : tie.Need-returns-5
+returns-5 c = λ p. let near = c .settled .ensures p in (omega arith, omega arith)
+
+pub last-step-spec : {M : Type 1} → statement M
+last-step-spec =
+    tie.close
+    (tie.spec
+    returns
+    returns-2
+    mul-top
+    mul-square
+    returns-3
+    returns-4
+    mul-settled
+    add-settled
+    settled-requires
+    returns-5)

@@ -1,0 +1,27 @@
+use borrow.Author.Needs.{needs}
+use native.Mathlib.Omega.{arith}
+use Rattle.real.proofs.Rounded.{nearest-short}
+use Rattle.real.proofs.root.nearest_root.Statement.{statement}
+use Rattle.real.proofs.root.nearest_root.Tie as tie
+use Rattle.real.proofs.root.nearest_root.Reads as reads
+use Rattle.real.proofs.root.nearest_root.Lts as lts
+use Rattle.real.proofs.root.last_step.Reads as last-step-reads
+use Rattle.real.proofs.root.rounded_root.Reads as rounded-root-reads
+
+last-step-requires : tie.Need-last-step-requires
+last-step-requires c κs = search needs
+
+rounded-root-requires : tie.Need-rounded-root-requires
+rounded-root-requires c κs = search needs
+
+returns : tie.Need-returns
+returns c = search needs
+
+returns-2 : tie.Need-returns-2
+returns-2 c =
+    let at = c .before in
+    let near = at .last-step .ensures (omega arith) in
+    (near .0, near .1, nearest-short (at .before .args .a) (at .last-step .result) (near .0) (at .before .pre .1))
+
+pub nearest-root-spec : {M : Type 1} → statement M
+nearest-root-spec = tie.close (tie.spec last-step-requires rounded-root-requires returns returns-2)

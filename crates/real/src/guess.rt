@@ -1,0 +1,42 @@
+// A guess at the root, by multiplications alone. Nothing is promised of how near it is: what is made of it is checked in `root`.
+ghost use Prim.Native.Nat.{_^_, _≤_, _<_};
+
+// One, in numbers of 32 digits after the point.
+const ONE: u64 = 0x1_0000_0000;
+
+// A guess at the root of a * 2^8, and at 2^60 by that root.
+pub(crate) struct Guess {
+    pub root: u64,
+    pub inverse: u64,
+}
+
+// 2^31 by the root of 1 + t / 2^32, to some 16 digits: a polynomial of degree 5 in t. The odd powers have coefficients that need shifts alone:
+// -511/1024, -65/256 and -1/32; the even ones are fitted to these.
+pub(crate) fn inverse_root(t: u64) -> u64
+    requires { ⌜ t < 2 ^ 32 ⌝ }
+    ensures { λ y. ⌜ y < 2 ^ 31 ⌝ }
+{
+    let square = t * t / ONE;
+    let fourth = square * square / ONE;
+    let first = 2147461529 - t / 4 + t / 2048;
+    let second = 779125966 - t / 8 - t / 512;
+    let third = 275901618 - t / 64;
+    first + second * square / ONE + third * fourth / ONE
+}
+
+// The guess for a = digits * 2^odd, to some 30 digits: one step of Goldschmidt's iteration from `inverse_root`.
+// The two factors are the root of 2 and its inverse where odd is 1, else both stand for one.
+pub(crate) fn guess_of(digits: u64, odd: u64) -> Guess
+    requires { ⌜ (digits < 2 ^ 53) × (odd < 2) ⌝ }
+{
+    let upper = digits / 0x10_0000;
+    let y = inverse_root(upper % ONE);
+    let scaled = upper * (1073741824 + odd * 444758425) / 0x8000_0000;
+    let inverse = y * (2147483648 - odd * 628983398) / 0x8000_0000;
+    let root = scaled * y / ONE;
+    let step = (0x6000_0000_0000_0000 - root * inverse) / 0x8000_0000;
+    Guess {
+        root: root * step / 0x8000_0000,
+        inverse: inverse * step / ONE,
+    }
+}
