@@ -1,5 +1,6 @@
 -- What a call does over any record type, and what it leaves: its number and the lent out. Definitions only.
 use Prim.Native.Nat.{ℕ, _+_, _*_}
+use mathlib.Core.Path.{_≡_}
 use mathlib.Core.Bool.{Bool, cond, not}
 use mathlib.Core.List.{List, [], _∷_, _++_}
 use lib.Dec.{eqb}
@@ -52,13 +53,20 @@ sizeOf width (Truth test) = 1
 sizeOf width (SinCos sin cos) = width + width
 sizeOf width (Record op) = width
 
+-- there are as many floats of out as the call gives
+abbrev pub Sized : ℕ → ℕ → Call → Type 0
+Sized width out Unknown = Unit
+Sized width out (Truth test) = out ≡ 1
+Sized width out (SinCos sin cos) = out ≡ width + width
+Sized width out (Record op) = out ≡ width
+
 -- the call of a line where there are so many floats of records, plain floats and floats of out as it takes, else Unknown
 unfoldable pub fitting : ℕ → Row → ℕ → ℕ → ℕ → Call
 fitting width r records floats out =
     cond (eqb records (r .records * width)) (cond (eqb floats (r .floats)) (cond (eqb out (sizeOf width (r .call))) (r .call) Unknown) Unknown) Unknown
 
 -- the call of a function number; the floats are lent as words
-abbrev pub callOf : ℕ → ℕ → ℤ → ℕ → List ℕ → ℕ → Call
+unfoldable pub callOf : ℕ → ℕ → ℤ → ℕ → List ℕ → ℕ → Call
 callOf width function exponent records floats out =
     fitting width (operatorRow function (getD (floatsOf floats) 0 float.zero) (getD (floatsOf floats) 1 float.zero) exponent) records (length floats) out
 

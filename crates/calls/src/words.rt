@@ -1,5 +1,6 @@
 // Floats by their words in lent slices.
 ghost use mathlib.Core.Path.{_≡_};
+ghost use mathlib.Core.List.{[], _∷_};
 ghost use lib.ListN.{length, getD};
 ghost use Rattle.real.specs.Operations as float;
 ghost use Rattle.calls.specs.Words.{floatsOf, wordsOf};
@@ -25,4 +26,13 @@ pub(crate) fn put(parts: &[f64], out: &mut [u64])
         out[i] = real::word_of_float(parts[i]);
         i += 1;
     }
+}
+
+// The word of one float.
+pub(crate) fn put_one(x: f64, out: &mut [u64])
+    requires { ⌜ length (now out) ≡ 1 ⌝ }
+    ensures { λ _. ⌜ now (out .exit) ≡ wordsOf (x ∷ []) ⌝ }
+{
+    let parts = [x];
+    put(&parts, out);
 }

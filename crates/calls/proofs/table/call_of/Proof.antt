@@ -1,3 +1,4 @@
+use Rattle.calls.specs.Called.{callOf}
 use mir.Syntax.{w32}
 use mir.ValLaws.{toZ-ofZ}
 use borrow.Author.Needs.{needs}
@@ -17,6 +18,7 @@ fitting-requires : tie.Need-fitting-requires
 fitting-requires c κs = search needs
 
 returns : tie.Need-returns
+unfolding callOf
 returns c =
     let a = c .before .before .before .before .before .args in
     rw (c .fitting .ensures, c .before .operator-row .ensures, toZ-ofZ w32 (a .exponent) (search needs), c .before .before .part2 .ensures, c .before .before .before .part .ensures)
