@@ -7,14 +7,15 @@ use crate::words;
 use dual::Dual;
 use dual::DualAnswer;
 use dual::DualSinCos;
+use matrices::floats;
 ghost use mathlib.Core.Path.{_≡_};
 ghost use mathlib.Core.List.{_++_};
-ghost use Prim.Native.Nat.{_<_};
+ghost use Prim.Native.Nat.{_+_, _<_};
 ghost use lib.ListN.{length};
 ghost use Rattle.algebra.specs.Outcome.{mapOutcome};
 ghost use Rattle.dual.specs.Rules.{dualLayout, outcome};
 ghost use Rattle.calls.specs.Words.{wordsOf};
-ghost use Rattle.calls.specs.Called.{Sized, lentRecord, operateOf, answerOf, leaves, calledOf, summedOf, multipliedOf};
+ghost use Rattle.calls.specs.Called.{Sized, lentRecord, operateOf, answerOf, leaves, calledOf, joinedLeft, summedOf, multipliedOf};
 ghost use Rattle.calls.specs.Kinds.{dualKind, dualDerivatives};
 
 const WIDTH: usize = 2;
@@ -48,7 +49,10 @@ fn operate(op: Operation, x: Dual, y: Dual, z: Dual) -> DualAnswer
         Operation::Abs => DualAnswer::Value(x.abs()),
         Operation::Signum => DualAnswer::Value(x.signum()),
         Operation::AbsSub => DualAnswer::Value(x.abs_sub(y)),
-        Operation::Atan2 { atan, quadrant } => DualAnswer::Value(x.atan2(y, atan, quadrant)),
+        Operation::Atan2 {
+            atan: a,
+            quadrant: q,
+        } => DualAnswer::Value(x.atan2(y, a, q)),
         Operation::MulAdd => DualAnswer::Value(x.mul_add(y, z)),
         Operation::Powd { ln, exp } => DualAnswer::Value(x.powd(y, ln, exp)),
         Operation::Request(f) => x.apply(f),
@@ -65,7 +69,7 @@ fn record_at(words: &[u64], p: usize) -> Dual
 }
 
 fn leave(answer: DualAnswer, out: &mut [u64]) -> u32
-    requires { ⌜ length (now out) ≡ 2 ⌝ }
+    requires { ⌜ length (now out) ≡ dualLayout .width ⌝ }
     ensures { λ r. ⌜ (r, now (out .exit)) ≡ leaves (mapOutcome wordsOf (mapOutcome (dualLayout .parts) (outcome answer))) (now (out .entry)) ⌝ }
 {
     match answer {
@@ -79,7 +83,7 @@ fn leave(answer: DualAnswer, out: &mut [u64]) -> u32
 }
 
 fn leave_both(answer: DualSinCos, out: &mut [u64])
-    requires { ⌜ length (now out) ≡ 4 ⌝ }
+    requires { ⌜ length (now out) ≡ dualLayout .width + dualLayout .width ⌝ }
     ensures { λ _. ⌜ now (out .exit) ≡ wordsOf (dualLayout .parts (answer .sin) ++ dualLayout .parts (answer .cos)) ⌝ }
 {
     let s = answer.sin;
@@ -89,7 +93,7 @@ fn leave_both(answer: DualSinCos, out: &mut [u64])
 }
 
 fn run(call: Call, x: Dual, y: Dual, z: Dual, out: &mut [u64]) -> u32
-    requires { ⌜ Sized 2 (length (now out)) call ⌝ }
+    requires { ⌜ Sized (dualLayout .width) (length (now out)) call ⌝ }
     ensures { λ r. ⌜ (r, now (out .exit)) ≡ leaves (mapOutcome wordsOf (answerOf dualKind call x y z)) (now (out .entry)) ⌝ }
 {
     match call {
@@ -115,4 +119,34 @@ pub fn call(function: u32, exponent: i32, records: &[u64], floats: &[u64], out: 
     let y = record_at(records, 1);
     let z = record_at(records, 2);
     run(call, x, y, z, out)
+}
+
+fn leave_floats(answer: DualAnswer, out: &mut [f64]) -> u32
+    ensures { λ r. ⌜ (r, now (out .exit)) ≡ joinedLeft dualKind (outcome answer) (now (out .entry)) ⌝ }
+{
+    if out.len() != WIDTH {
+        return algebra::WRONG_LENGTH;
+    }
+    match answer {
+        DualAnswer::Value(x) => {
+            let parts = [x.re, x.eps];
+            floats::copy(&parts, out);
+            0
+        }
+        DualAnswer::Refused(number) => number,
+    }
+}
+
+// The sum of the records of a run.
+pub fn sum(run: &[f64], out: &mut [f64]) -> u32
+    ensures { λ r. ⌜ (r, now (out .exit)) ≡ summedOf dualKind (now (run .entry)) (now (out .entry)) ⌝ }
+{
+    leave_floats(dual::sum(run), out)
+}
+
+// The product of the records of a run.
+pub fn product(run: &[f64], out: &mut [f64]) -> u32
+    ensures { λ r. ⌜ (r, now (out .exit)) ≡ multipliedOf dualKind (now (run .entry)) (now (out .entry)) ⌝ }
+{
+    leave_floats(dual::product(run), out)
 }
