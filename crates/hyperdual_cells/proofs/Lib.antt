@@ -1,0 +1,2 @@
+-- Laws of `HyperDual` records in lent floats.
+mod Cells
