@@ -5,6 +5,7 @@ use mathlib.Core.List.{List}
 use native.Mathlib.Nat.{add-zero, mul-le-mul}
 use native.Mathlib.Numerals.{add-one}
 use native.Mathlib.Omega.{arith}
+use lib.Dec.{lit≤}
 use lib.ListN.{length, getD, set}
 use lib.Ieee.{Float, nan}
 use Rattle.real.specs.Operations as float
@@ -13,10 +14,16 @@ use Rattle.algebra.proofs.Flat.{record-there, decode-at, decode-store}
 use Rattle.algebra.proofs.Inside.{getD-inside}
 use Rattle.dual.specs.Rules.{dual, dualAlgebra, dualLayout}
 use Rattle.dual.specs.declared.Dual.{Dual}
-use Rattle.dual.proofs.Flat.{dual-lawful}
+use Rattle.dual.proofs.Flat.{dual-lawful, dual-agrees}
+use Rattle.dual.proofs.RealParts.{dual-reals}
+use Rattle.matrices.proofs.Laws.{Laws}
 use Rattle.dual_cells.specs.Records.{records}
 use Rattle.matrices.specs.Matrix.{Square}
 use Rattle.matrices.proofs.Places.{place, flat-place}
+
+-- what matrices ask of `Dual`
+pub dual-laws : Laws dualAlgebra dualLayout
+dual-laws = record { lawful = dual-lawful; agrees = dual-agrees; real = dual-reals; narrow = lit≤ tt }
 
 -- the two floats from p * 2 on are record number p
 pub read-record : (l : List Float) (p : ℕ) → p * 2 + 1 < length l → dual (getD l (p * 2) nan) (getD l (p * 2 + 1) nan) ≡ getD (records l) p (zeroOf dualAlgebra)

@@ -9,7 +9,7 @@ ghost use Rattle.algebra.specs.Algebra.{zeroOf, oneOf};
 ghost use Rattle.algebra.specs.Flat.{decode};
 ghost use Rattle.algebra.specs.Loop.{upto};
 ghost use Rattle.dual.specs.Rules.{dualAlgebra, dualLayout};
-ghost use Rattle.matrices.specs.Matrix.{Square};
+ghost use Rattle.matrices.specs.Matrix.{Square, Row};
 ghost use Rattle.matrices.specs.Solve.{Strided, less, forwardRow, forward, backRow, back, solveOf};
 ghost use Rattle.matrices.specs.Inverse.{unit, inverseColumn, inverseOf};
 ghost use Rattle.matrices.specs.Order.{Order};
@@ -34,9 +34,8 @@ fn less_row(
     hi: usize,
     v: Dual,
 ) -> Dual
-    requires { ⌜ Square 2 n (now a) ⌝ }
+    requires { ⌜ Row 2 n i (now a) ⌝ }
     requires { ⌜ Strided 2 n stride base (now x) ⌝ }
-    requires { ⌜ i < n ⌝ }
     requires { ⌜ hi ≤ n ⌝ }
     ensures { λ r. ⌜ r ≡ upto lo hi (less dualAlgebra n (decode dualLayout (now (a .entry))) stride base i (decode dualLayout (now (x .entry)))) v ⌝ }
 {
@@ -61,9 +60,9 @@ fn forward_row(n: usize, a: &[f64], x: &mut [f64], stride: usize, base: usize, i
 
 // x[i], less the products with the elements after it, over a[(i, i)].
 fn back_row(n: usize, a: &[f64], x: &mut [f64], stride: usize, base: usize, i: usize)
-    requires { ⌜ Square 2 n (now a) ⌝ }
+    requires { ⌜ Row 2 n i (now a) ⌝ }
     requires { ⌜ Strided 2 n stride base (now x) ⌝ }
-    requires { ⌜ i < n ⌝ }
+    requires { ⌜ (i * stride + base) * 2 + 2 ≤ length (now x) ⌝ }
     ensures { λ _. ⌜ decode dualLayout (now (x .exit)) ≡ backRow dualAlgebra n (decode dualLayout (now (a .entry))) stride base i (decode dualLayout (now (x .entry))) ⌝ }
 {
     let at = i * stride + base;

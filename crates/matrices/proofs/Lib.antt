@@ -17,3 +17,8 @@ pub mod RowsOfRecords
 -- for the code over a record: its inner loops, and the two ways out of an entry
 pub mod Inner
 pub mod Answers
+-- what they ask of a record, and the code over it function by function
+pub mod Laws
+pub mod Turns
+-- the entries by what their contracts say
+pub mod Calls
