@@ -74,3 +74,16 @@ module _ {S S′ : Type 0} (h : S → S′) (f : ℕ → S → S) (g : ℕ → S
 
   pub upto-map : ((k : ℕ) (s : S) → h (f k s) ≡ g k (h s)) → (lo hi : ℕ) (s : S) → h (upto lo hi f s) ≡ upto lo hi g (h s)
   upto-map step lo hi s = upto-carry lo hi (λ j s′ l u. step j s′) s
+
+-- Two turns in one: where turn j of f and each later turn of g may change places, all of g may go first
+module _ {S : Type 0} (f g : ℕ → S → S) where
+  turns-apart : (d k : ℕ) → ((j m : ℕ) (s : S) → k ≤ j → j < m → m < k + d → f j (g m s) ≡ g m (f j s)) → (s : S) → turns (λ j t. f j (g j t)) d k s ≡ turns f d k (turns g d k s)
+  unfolding turns
+  turns-apart zero k swap s = refl
+  turns-apart (suc d) k swap s =
+      turns-apart d (suc k) (λ j m t l h u. swap j m t (omega arith) h (omega arith)) (f k (g k s))
+      ∙ ap (turns f d (suc k)) (sym (turns-carry (f k) g g d (suc k) (λ m t l u. swap k m t (omega arith) (omega arith) (omega arith)) (g k s)))
+
+  pub upto-apart : (lo hi : ℕ) → ((j m : ℕ) (s : S) → lo ≤ j → j < m → m < hi → f j (g m s) ≡ g m (f j s)) → (s : S) → upto lo hi (λ j t. f j (g j t)) s ≡ upto lo hi f (upto lo hi g s)
+  unfolding upto
+  upto-apart lo hi swap s = turns-apart (hi - lo) lo (λ j m t l h u. swap j m t l h (omega arith)) s

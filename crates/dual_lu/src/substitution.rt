@@ -1,17 +1,16 @@
-// Solve, and inverse column by column. The vector's element i is record i * stride + base of x: all of x (1, 0), or a column of a matrix (n, j).
+// Solve, and inverse column by column. The starts of a vector are written first; then each element is made from what stands in its place.
+// The vector's element i is record i * stride + base of x: all of x (1, 0), or a column of a matrix (n, j).
 use dual::Dual;
 ghost use mathlib.Core.Path.{_≡_};
 ghost use Prim.Native.Nat.{ℕ, _+_, _*_, _<_, _≤_};
 ghost use lib.ListN.{length, getD, set};
-ghost use mathlib.Core.Bool.{cond};
-ghost use lib.Dec.{eqb};
-ghost use Rattle.algebra.specs.Algebra.{zeroOf, oneOf};
-ghost use Rattle.algebra.specs.Flat.{decode};
+ghost use Rattle.algebra.specs.Algebra.{zeroOf};
+ghost use Rattle.algebra.specs.Flat.{decode, tabulate};
 ghost use Rattle.algebra.specs.Loop.{upto};
 ghost use Rattle.dual.specs.Rules.{dualAlgebra, dualLayout};
 ghost use Rattle.matrices.specs.Matrix.{Square, Row};
-ghost use Rattle.matrices.specs.Solve.{Strided, less, forwardRow, forward, backRow, back, solveOf};
-ghost use Rattle.matrices.specs.Inverse.{unit, inverseColumn, inverseOf};
+ghost use Rattle.matrices.specs.Solve.{Strided, less, eliminate, forwardFrom, backRow, back, substituteFrom, solveOf};
+ghost use Rattle.matrices.specs.Inverse.{units, inverseOf};
 ghost use Rattle.matrices.specs.Order.{Order};
 
 // v less record p of a times record q of x.
@@ -47,15 +46,28 @@ fn less_row(
     r
 }
 
-// x[i], from v down to the product with x[i - 1].
-fn forward_row(n: usize, a: &[f64], x: &mut [f64], stride: usize, base: usize, i: usize, v: Dual)
+// x[i], less the products with the elements before it.
+fn forward_row(n: usize, a: &[f64], x: &mut [f64], stride: usize, base: usize, i: usize)
+    requires { ⌜ Row 2 n i (now a) ⌝ }
+    requires { ⌜ Strided 2 n stride base (now x) ⌝ }
+    requires { ⌜ (i * stride + base) * 2 + 2 ≤ length (now x) ⌝ }
+    ensures { λ _. ⌜ decode dualLayout (now (x .exit)) ≡ upto 0 i (eliminate dualAlgebra n (decode dualLayout (now (a .entry))) stride base i) (decode dualLayout (now (x .entry))) ⌝ }
+{
+    let at = i * stride + base;
+    let v = dual_cells::read(x, at);
+    let r = less_row(n, a, x, stride, base, i, 0, i, v);
+    dual_cells::write(x, at, r);
+}
+
+// From the first element down.
+fn run_forward(n: usize, a: &[f64], x: &mut [f64], stride: usize, base: usize)
     requires { ⌜ Square 2 n (now a) ⌝ }
     requires { ⌜ Strided 2 n stride base (now x) ⌝ }
-    requires { ⌜ i < n ⌝ }
-    ensures { λ _. ⌜ decode dualLayout (now (x .exit)) ≡ forwardRow dualAlgebra n (decode dualLayout (now (a .entry))) stride base (λ k. v) i (decode dualLayout (now (x .entry))) ⌝ }
+    ensures { λ _. ⌜ decode dualLayout (now (x .exit)) ≡ forwardFrom dualAlgebra n (decode dualLayout (now (a .entry))) stride base (decode dualLayout (now (x .entry))) ⌝ }
 {
-    let r = less_row(n, a, x, stride, base, i, 0, i, v);
-    dual_cells::write(x, i * stride + base, r);
+    for i in 0..n {
+        forward_row(n, a, x, stride, base, i);
+    }
 }
 
 // x[i], less the products with the elements after it, over a[(i, i)].
@@ -81,28 +93,26 @@ fn run_back(n: usize, a: &[f64], x: &mut [f64], stride: usize, base: usize)
     }
 }
 
-// x[i] starts as b[order[i]].
-fn solve_row(n: usize, a: &[f64], order: &[usize], b: &[f64], x: &mut [f64], i: usize)
+// Forward, then back, from the starts that stand in x.
+fn run(n: usize, a: &[f64], x: &mut [f64], stride: usize, base: usize)
     requires { ⌜ Square 2 n (now a) ⌝ }
-    requires { ⌜ Order n (now order) ⌝ }
-    requires { ⌜ length (now b) ≡ n * 2 ⌝ }
-    requires { ⌜ Strided 2 n 1 0 (now x) ⌝ }
-    requires { ⌜ i < n ⌝ }
-    ensures { λ _. ⌜ decode dualLayout (now (x .exit)) ≡ forwardRow dualAlgebra n (decode dualLayout (now (a .entry))) 1 0 (λ k. getD (decode dualLayout (now (b .entry))) (getD (now (order .entry)) k 0) (zeroOf dualAlgebra)) i (decode dualLayout (now (x .entry))) ⌝ }
+    requires { ⌜ Strided 2 n stride base (now x) ⌝ }
+    ensures { λ _. ⌜ decode dualLayout (now (x .exit)) ≡ substituteFrom dualAlgebra n (decode dualLayout (now (a .entry))) stride base (decode dualLayout (now (x .entry))) ⌝ }
 {
-    let p = order[i];
-    forward_row(n, a, x, 1, 0, i, dual_cells::read(b, p));
+    run_forward(n, a, x, stride, base);
+    run_back(n, a, x, stride, base);
 }
 
-fn solve_forward(n: usize, a: &[f64], order: &[usize], b: &[f64], x: &mut [f64])
-    requires { ⌜ Square 2 n (now a) ⌝ }
+// x[i] starts as b[order[i]].
+fn solve_starts(n: usize, order: &[usize], b: &[f64], x: &mut [f64])
     requires { ⌜ Order n (now order) ⌝ }
     requires { ⌜ length (now b) ≡ n * 2 ⌝ }
-    requires { ⌜ Strided 2 n 1 0 (now x) ⌝ }
-    ensures { λ _. ⌜ decode dualLayout (now (x .exit)) ≡ forward dualAlgebra n (decode dualLayout (now (a .entry))) 1 0 (λ k. getD (decode dualLayout (now (b .entry))) (getD (now (order .entry)) k 0) (zeroOf dualAlgebra)) (decode dualLayout (now (x .entry))) ⌝ }
+    requires { ⌜ length (now x) ≡ n * 2 ⌝ }
+    ensures { λ _. ⌜ decode dualLayout (now (x .exit)) ≡ tabulate (λ k. getD (decode dualLayout (now (b .entry))) (getD (now (order .entry)) k 0) (zeroOf dualAlgebra)) n 0 ⌝ }
 {
     for i in 0..n {
-        solve_row(n, a, order, b, x, i);
+        let p = order[i];
+        dual_cells::write(x, i, dual_cells::read(b, p));
     }
 }
 
@@ -114,48 +124,21 @@ pub(crate) fn solve_run(n: usize, a: &[f64], order: &[usize], b: &[f64], x: &mut
     requires { ⌜ length (now x) ≡ n * 2 ⌝ }
     ensures { λ _. ⌜ decode dualLayout (now (x .exit)) ≡ solveOf dualAlgebra n (decode dualLayout (now (a .entry))) (now (order .entry)) (decode dualLayout (now (b .entry))) ⌝ }
 {
+    solve_starts(n, order, b, x);
+    run(n, a, x, 1, 0);
+}
+
+// Row i of the starts of inverse is one at column order[i], else zero.
+fn inverse_starts(n: usize, order: &[usize], x: &mut [f64])
+    requires { ⌜ Order n (now order) ⌝ }
+    requires { ⌜ Square 2 n (now x) ⌝ }
+    ensures { λ _. ⌜ decode dualLayout (now (x .exit)) ≡ units dualAlgebra n (now (order .entry)) ⌝ }
+{
     matrices::floats::clear(x);
-    solve_forward(n, a, order, b, x);
-    run_back(n, a, x, 1, 0);
-}
-
-// One where p is j, else zero.
-fn unit_record(p: usize, j: usize) -> Dual
-    ensures { λ r. ⌜ r ≡ cond (eqb p j) (oneOf dualAlgebra) (zeroOf dualAlgebra) ⌝ }
-{
-    if p == j { Dual::ONE } else { Dual::ZERO }
-}
-
-// Element i of column j starts as one where order[i] is j, else zero.
-fn inverse_row(n: usize, a: &[f64], order: &[usize], x: &mut [f64], j: usize, i: usize)
-    requires { ⌜ Square 2 n (now a) ⌝ }
-    requires { ⌜ Order n (now order) ⌝ }
-    requires { ⌜ Strided 2 n n j (now x) ⌝ }
-    requires { ⌜ i < n ⌝ }
-    ensures { λ _. ⌜ decode dualLayout (now (x .exit)) ≡ forwardRow dualAlgebra n (decode dualLayout (now (a .entry))) n j (unit dualAlgebra n (decode dualLayout (now (a .entry))) (now (order .entry)) j) i (decode dualLayout (now (x .entry))) ⌝ }
-{
-    forward_row(n, a, x, n, j, i, unit_record(order[i], j));
-}
-
-fn inverse_forward(n: usize, a: &[f64], order: &[usize], x: &mut [f64], j: usize)
-    requires { ⌜ Square 2 n (now a) ⌝ }
-    requires { ⌜ Order n (now order) ⌝ }
-    requires { ⌜ Strided 2 n n j (now x) ⌝ }
-    ensures { λ _. ⌜ decode dualLayout (now (x .exit)) ≡ forward dualAlgebra n (decode dualLayout (now (a .entry))) n j (unit dualAlgebra n (decode dualLayout (now (a .entry))) (now (order .entry)) j) (decode dualLayout (now (x .entry))) ⌝ }
-{
     for i in 0..n {
-        inverse_row(n, a, order, x, j, i);
+        let p = order[i];
+        dual_cells::write(x, i * n + p, Dual::ONE);
     }
-}
-
-fn inverse_column(n: usize, a: &[f64], order: &[usize], x: &mut [f64], j: usize)
-    requires { ⌜ Square 2 n (now a) ⌝ }
-    requires { ⌜ Order n (now order) ⌝ }
-    requires { ⌜ Strided 2 n n j (now x) ⌝ }
-    ensures { λ _. ⌜ decode dualLayout (now (x .exit)) ≡ inverseColumn dualAlgebra n (decode dualLayout (now (a .entry))) (now (order .entry)) j (decode dualLayout (now (x .entry))) ⌝ }
-{
-    inverse_forward(n, a, order, x, j);
-    run_back(n, a, x, n, j);
 }
 
 // Inverse once the size, the lengths and the order are right.
@@ -165,8 +148,8 @@ pub(crate) fn inverse_run(n: usize, a: &[f64], order: &[usize], x: &mut [f64])
     requires { ⌜ Square 2 n (now x) ⌝ }
     ensures { λ _. ⌜ decode dualLayout (now (x .exit)) ≡ inverseOf dualAlgebra n (decode dualLayout (now (a .entry))) (now (order .entry)) ⌝ }
 {
-    matrices::floats::clear(x);
+    inverse_starts(n, order, x);
     for j in 0..n {
-        inverse_column(n, a, order, x, j);
+        run(n, a, x, n, j);
     }
 }

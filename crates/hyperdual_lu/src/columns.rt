@@ -8,7 +8,7 @@ ghost use Rattle.algebra.specs.Algebra.{zeroOf};
 ghost use Rattle.algebra.specs.Flat.{decode};
 ghost use Rattle.algebra.specs.Loop.{upto};
 ghost use Rattle.hyperdual.specs.Rules.{hyperDualAlgebra, hyperDualLayout};
-ghost use Rattle.matrices.specs.Matrix.{Square, cell};
+ghost use Rattle.matrices.specs.Matrix.{Square, Row, cell};
 ghost use Rattle.matrices.specs.Lu.{going, subtract, reduceRow, reduce, column, numbers, luOf};
 ghost use Rattle.matrices.specs.Steps.{runAfter, swapsOf};
 ghost use Rattle.matrices.specs.Determinant.{diagonal, determinantOf};
@@ -25,9 +25,8 @@ fn subtract_record(a: &mut [f64], to: usize, from: usize, x: HyperDual)
 
 // The rest of row j, whose multiplier is x.
 fn subtract_row(n: usize, a: &mut [f64], i: usize, j: usize, x: HyperDual)
-    requires { ⌜ Square 4 n (now a) ⌝ }
-    requires { ⌜ i < n ⌝ }
-    requires { ⌜ j < n ⌝ }
+    requires { ⌜ Row 4 n i (now a) ⌝ }
+    requires { ⌜ Row 4 n j (now a) ⌝ }
     requires { ⌜ cell hyperDualAlgebra n (decode hyperDualLayout (now a)) j i ≡ x ⌝ }
     ensures { λ _. ⌜ decode hyperDualLayout (now (a .exit)) ≡ upto (i + 1) n (subtract hyperDualAlgebra n i j) (decode hyperDualLayout (now (a .entry))) ⌝ }
 {
@@ -40,9 +39,8 @@ fn subtract_row(n: usize, a: &mut [f64], i: usize, j: usize, x: HyperDual)
 
 // The multiplier of row j, then the rest of the row.
 fn reduce_row(n: usize, a: &mut [f64], i: usize, j: usize)
-    requires { ⌜ Square 4 n (now a) ⌝ }
-    requires { ⌜ i < n ⌝ }
-    requires { ⌜ j < n ⌝ }
+    requires { ⌜ Row 4 n i (now a) ⌝ }
+    requires { ⌜ Row 4 n j (now a) ⌝ }
     ensures { λ _. ⌜ decode hyperDualLayout (now (a .exit)) ≡ reduceRow hyperDualAlgebra n i j (decode hyperDualLayout (now (a .entry))) ⌝ }
 {
     let at = j * n + i;

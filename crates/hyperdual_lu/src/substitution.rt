@@ -1,17 +1,16 @@
-// Solve, and inverse column by column. The vector's element i is record i * stride + base of x: all of x (1, 0), or a column of a matrix (n, j).
+// Solve, and inverse column by column. The starts of a vector are written first; then each element is made from what stands in its place.
+// The vector's element i is record i * stride + base of x: all of x (1, 0), or a column of a matrix (n, j).
 use hyperdual::HyperDual;
 ghost use mathlib.Core.Path.{_≡_};
 ghost use Prim.Native.Nat.{ℕ, _+_, _*_, _<_, _≤_};
 ghost use lib.ListN.{length, getD, set};
-ghost use mathlib.Core.Bool.{cond};
-ghost use lib.Dec.{eqb};
-ghost use Rattle.algebra.specs.Algebra.{zeroOf, oneOf};
-ghost use Rattle.algebra.specs.Flat.{decode};
+ghost use Rattle.algebra.specs.Algebra.{zeroOf};
+ghost use Rattle.algebra.specs.Flat.{decode, tabulate};
 ghost use Rattle.algebra.specs.Loop.{upto};
 ghost use Rattle.hyperdual.specs.Rules.{hyperDualAlgebra, hyperDualLayout};
-ghost use Rattle.matrices.specs.Matrix.{Square};
-ghost use Rattle.matrices.specs.Solve.{Strided, less, forwardRow, forward, backRow, back, solveOf};
-ghost use Rattle.matrices.specs.Inverse.{unit, inverseColumn, inverseOf};
+ghost use Rattle.matrices.specs.Matrix.{Square, Row};
+ghost use Rattle.matrices.specs.Solve.{Strided, less, eliminate, forwardFrom, backRow, back, substituteFrom, solveOf};
+ghost use Rattle.matrices.specs.Inverse.{units, inverseOf};
 ghost use Rattle.matrices.specs.Order.{Order};
 
 // v less record p of a times record q of x.
@@ -34,9 +33,8 @@ fn less_row(
     hi: usize,
     v: HyperDual,
 ) -> HyperDual
-    requires { ⌜ Square 4 n (now a) ⌝ }
+    requires { ⌜ Row 4 n i (now a) ⌝ }
     requires { ⌜ Strided 4 n stride base (now x) ⌝ }
-    requires { ⌜ i < n ⌝ }
     requires { ⌜ hi ≤ n ⌝ }
     ensures { λ r. ⌜ r ≡ upto lo hi (less hyperDualAlgebra n (decode hyperDualLayout (now (a .entry))) stride base i (decode hyperDualLayout (now (x .entry)))) v ⌝ }
 {
@@ -48,30 +46,35 @@ fn less_row(
     r
 }
 
-// x[i], from v down to the product with x[i - 1].
-fn forward_row(
-    n: usize,
-    a: &[f64],
-    x: &mut [f64],
-    stride: usize,
-    base: usize,
-    i: usize,
-    v: HyperDual,
-)
+// x[i], less the products with the elements before it.
+fn forward_row(n: usize, a: &[f64], x: &mut [f64], stride: usize, base: usize, i: usize)
+    requires { ⌜ Row 4 n i (now a) ⌝ }
+    requires { ⌜ Strided 4 n stride base (now x) ⌝ }
+    requires { ⌜ (i * stride + base) * 4 + 4 ≤ length (now x) ⌝ }
+    ensures { λ _. ⌜ decode hyperDualLayout (now (x .exit)) ≡ upto 0 i (eliminate hyperDualAlgebra n (decode hyperDualLayout (now (a .entry))) stride base i) (decode hyperDualLayout (now (x .entry))) ⌝ }
+{
+    let at = i * stride + base;
+    let v = hyperdual_cells::read(x, at);
+    let r = less_row(n, a, x, stride, base, i, 0, i, v);
+    hyperdual_cells::write(x, at, r);
+}
+
+// From the first element down.
+fn run_forward(n: usize, a: &[f64], x: &mut [f64], stride: usize, base: usize)
     requires { ⌜ Square 4 n (now a) ⌝ }
     requires { ⌜ Strided 4 n stride base (now x) ⌝ }
-    requires { ⌜ i < n ⌝ }
-    ensures { λ _. ⌜ decode hyperDualLayout (now (x .exit)) ≡ forwardRow hyperDualAlgebra n (decode hyperDualLayout (now (a .entry))) stride base (λ k. v) i (decode hyperDualLayout (now (x .entry))) ⌝ }
+    ensures { λ _. ⌜ decode hyperDualLayout (now (x .exit)) ≡ forwardFrom hyperDualAlgebra n (decode hyperDualLayout (now (a .entry))) stride base (decode hyperDualLayout (now (x .entry))) ⌝ }
 {
-    let r = less_row(n, a, x, stride, base, i, 0, i, v);
-    hyperdual_cells::write(x, i * stride + base, r);
+    for i in 0..n {
+        forward_row(n, a, x, stride, base, i);
+    }
 }
 
 // x[i], less the products with the elements after it, over a[(i, i)].
 fn back_row(n: usize, a: &[f64], x: &mut [f64], stride: usize, base: usize, i: usize)
-    requires { ⌜ Square 4 n (now a) ⌝ }
+    requires { ⌜ Row 4 n i (now a) ⌝ }
     requires { ⌜ Strided 4 n stride base (now x) ⌝ }
-    requires { ⌜ i < n ⌝ }
+    requires { ⌜ (i * stride + base) * 4 + 4 ≤ length (now x) ⌝ }
     ensures { λ _. ⌜ decode hyperDualLayout (now (x .exit)) ≡ backRow hyperDualAlgebra n (decode hyperDualLayout (now (a .entry))) stride base i (decode hyperDualLayout (now (x .entry))) ⌝ }
 {
     let at = i * stride + base;
@@ -100,28 +103,26 @@ fn run_back(n: usize, a: &[f64], x: &mut [f64], stride: usize, base: usize)
     }
 }
 
-// x[i] starts as b[order[i]].
-fn solve_row(n: usize, a: &[f64], order: &[usize], b: &[f64], x: &mut [f64], i: usize)
+// Forward, then back, from the starts that stand in x.
+fn run(n: usize, a: &[f64], x: &mut [f64], stride: usize, base: usize)
     requires { ⌜ Square 4 n (now a) ⌝ }
-    requires { ⌜ Order n (now order) ⌝ }
-    requires { ⌜ length (now b) ≡ n * 4 ⌝ }
-    requires { ⌜ Strided 4 n 1 0 (now x) ⌝ }
-    requires { ⌜ i < n ⌝ }
-    ensures { λ _. ⌜ decode hyperDualLayout (now (x .exit)) ≡ forwardRow hyperDualAlgebra n (decode hyperDualLayout (now (a .entry))) 1 0 (λ k. getD (decode hyperDualLayout (now (b .entry))) (getD (now (order .entry)) k 0) (zeroOf hyperDualAlgebra)) i (decode hyperDualLayout (now (x .entry))) ⌝ }
+    requires { ⌜ Strided 4 n stride base (now x) ⌝ }
+    ensures { λ _. ⌜ decode hyperDualLayout (now (x .exit)) ≡ substituteFrom hyperDualAlgebra n (decode hyperDualLayout (now (a .entry))) stride base (decode hyperDualLayout (now (x .entry))) ⌝ }
 {
-    let p = order[i];
-    forward_row(n, a, x, 1, 0, i, hyperdual_cells::read(b, p));
+    run_forward(n, a, x, stride, base);
+    run_back(n, a, x, stride, base);
 }
 
-fn solve_forward(n: usize, a: &[f64], order: &[usize], b: &[f64], x: &mut [f64])
-    requires { ⌜ Square 4 n (now a) ⌝ }
+// x[i] starts as b[order[i]].
+fn solve_starts(n: usize, order: &[usize], b: &[f64], x: &mut [f64])
     requires { ⌜ Order n (now order) ⌝ }
     requires { ⌜ length (now b) ≡ n * 4 ⌝ }
-    requires { ⌜ Strided 4 n 1 0 (now x) ⌝ }
-    ensures { λ _. ⌜ decode hyperDualLayout (now (x .exit)) ≡ forward hyperDualAlgebra n (decode hyperDualLayout (now (a .entry))) 1 0 (λ k. getD (decode hyperDualLayout (now (b .entry))) (getD (now (order .entry)) k 0) (zeroOf hyperDualAlgebra)) (decode hyperDualLayout (now (x .entry))) ⌝ }
+    requires { ⌜ length (now x) ≡ n * 4 ⌝ }
+    ensures { λ _. ⌜ decode hyperDualLayout (now (x .exit)) ≡ tabulate (λ k. getD (decode hyperDualLayout (now (b .entry))) (getD (now (order .entry)) k 0) (zeroOf hyperDualAlgebra)) n 0 ⌝ }
 {
     for i in 0..n {
-        solve_row(n, a, order, b, x, i);
+        let p = order[i];
+        hyperdual_cells::write(x, i, hyperdual_cells::read(b, p));
     }
 }
 
@@ -133,52 +134,21 @@ pub(crate) fn solve_run(n: usize, a: &[f64], order: &[usize], b: &[f64], x: &mut
     requires { ⌜ length (now x) ≡ n * 4 ⌝ }
     ensures { λ _. ⌜ decode hyperDualLayout (now (x .exit)) ≡ solveOf hyperDualAlgebra n (decode hyperDualLayout (now (a .entry))) (now (order .entry)) (decode hyperDualLayout (now (b .entry))) ⌝ }
 {
+    solve_starts(n, order, b, x);
+    run(n, a, x, 1, 0);
+}
+
+// Row i of the starts of inverse is one at column order[i], else zero.
+fn inverse_starts(n: usize, order: &[usize], x: &mut [f64])
+    requires { ⌜ Order n (now order) ⌝ }
+    requires { ⌜ Square 4 n (now x) ⌝ }
+    ensures { λ _. ⌜ decode hyperDualLayout (now (x .exit)) ≡ units hyperDualAlgebra n (now (order .entry)) ⌝ }
+{
     matrices::floats::clear(x);
-    solve_forward(n, a, order, b, x);
-    run_back(n, a, x, 1, 0);
-}
-
-// One where p is j, else zero.
-fn unit_record(p: usize, j: usize) -> HyperDual
-    ensures { λ r. ⌜ r ≡ cond (eqb p j) (oneOf hyperDualAlgebra) (zeroOf hyperDualAlgebra) ⌝ }
-{
-    if p == j {
-        HyperDual::ONE
-    } else {
-        HyperDual::ZERO
-    }
-}
-
-// Element i of column j starts as one where order[i] is j, else zero.
-fn inverse_row(n: usize, a: &[f64], order: &[usize], x: &mut [f64], j: usize, i: usize)
-    requires { ⌜ Square 4 n (now a) ⌝ }
-    requires { ⌜ Order n (now order) ⌝ }
-    requires { ⌜ Strided 4 n n j (now x) ⌝ }
-    requires { ⌜ i < n ⌝ }
-    ensures { λ _. ⌜ decode hyperDualLayout (now (x .exit)) ≡ forwardRow hyperDualAlgebra n (decode hyperDualLayout (now (a .entry))) n j (unit hyperDualAlgebra n (decode hyperDualLayout (now (a .entry))) (now (order .entry)) j) i (decode hyperDualLayout (now (x .entry))) ⌝ }
-{
-    forward_row(n, a, x, n, j, i, unit_record(order[i], j));
-}
-
-fn inverse_forward(n: usize, a: &[f64], order: &[usize], x: &mut [f64], j: usize)
-    requires { ⌜ Square 4 n (now a) ⌝ }
-    requires { ⌜ Order n (now order) ⌝ }
-    requires { ⌜ Strided 4 n n j (now x) ⌝ }
-    ensures { λ _. ⌜ decode hyperDualLayout (now (x .exit)) ≡ forward hyperDualAlgebra n (decode hyperDualLayout (now (a .entry))) n j (unit hyperDualAlgebra n (decode hyperDualLayout (now (a .entry))) (now (order .entry)) j) (decode hyperDualLayout (now (x .entry))) ⌝ }
-{
     for i in 0..n {
-        inverse_row(n, a, order, x, j, i);
+        let p = order[i];
+        hyperdual_cells::write(x, i * n + p, HyperDual::ONE);
     }
-}
-
-fn inverse_column(n: usize, a: &[f64], order: &[usize], x: &mut [f64], j: usize)
-    requires { ⌜ Square 4 n (now a) ⌝ }
-    requires { ⌜ Order n (now order) ⌝ }
-    requires { ⌜ Strided 4 n n j (now x) ⌝ }
-    ensures { λ _. ⌜ decode hyperDualLayout (now (x .exit)) ≡ inverseColumn hyperDualAlgebra n (decode hyperDualLayout (now (a .entry))) (now (order .entry)) j (decode hyperDualLayout (now (x .entry))) ⌝ }
-{
-    inverse_forward(n, a, order, x, j);
-    run_back(n, a, x, n, j);
 }
 
 // Inverse once the size, the lengths and the order are right.
@@ -188,8 +158,8 @@ pub(crate) fn inverse_run(n: usize, a: &[f64], order: &[usize], x: &mut [f64])
     requires { ⌜ Square 4 n (now x) ⌝ }
     ensures { λ _. ⌜ decode hyperDualLayout (now (x .exit)) ≡ inverseOf hyperDualAlgebra n (decode hyperDualLayout (now (a .entry))) (now (order .entry)) ⌝ }
 {
-    matrices::floats::clear(x);
+    inverse_starts(n, order, x);
     for j in 0..n {
-        inverse_column(n, a, order, x, j);
+        run(n, a, x, n, j);
     }
 }

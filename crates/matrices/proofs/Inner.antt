@@ -12,7 +12,7 @@ use Rattle.algebra.specs.Loop.{upto}
 use Rattle.algebra.proofs.Loop.{upto-carry}
 use Rattle.matrices.specs.Matrix.{cell, store}
 use Rattle.matrices.specs.Lu.{subtract}
-use Rattle.matrices.specs.Solve.{element, assign, less, eliminate, forwardRow, divide, backRow}
+use Rattle.matrices.specs.Solve.{element, assign, less, eliminate, divide, backRow}
 
 module _ {R : Type 0} (A : Algebra R) (n : ℕ) where
   -- the code of one subtraction, with the multiplier x in hand
@@ -32,7 +32,7 @@ module _ {R : Type 0} (A : Algebra R) (n : ℕ) where
   multiplier-is a r c v h = getD-set-same a (r * n + c) v (zeroOf A) h
 
 -- two elements of a vector stand apart
-stride-apart : (s b i k : ℕ) → 0 < s → (k ≡ i → ⊥) → k * s + b ≡ i * s + b → ⊥
+pub stride-apart : (s b i k : ℕ) → 0 < s → (k ≡ i → ⊥) → k * s + b ≡ i * s + b → ⊥
 stride-apart s b i k z ne e = go (decLt k i)
   where
     go : Dec (k < i) → ⊥
@@ -51,15 +51,18 @@ module _ {R : Type 0} (A : Algebra R) (n : ℕ) (a : List R) (stride base : ℕ)
       sym (set-set x (i * stride + base) u _ ∙ (λ t. set x (i * stride + base) (A .sub (same t) (A .mul (cell A n a i k) (other t))))))
       v)
 
-  pub forwardRow-by : (start : ℕ → R) → forwardRow A n a stride base start i x ≡ assign A n a stride base x i (upto 0 i (less A n a stride base i x) (start i))
-  unfolding forwardRow
-  forwardRow-by start = eliminated 0 i (λ k l h e. omega arith) (start i)
+  -- from what stands in x[i]
+  row-by : (lo hi : ℕ) → ((k : ℕ) → lo ≤ k → k < hi → k ≡ i → ⊥)
+      → upto lo hi (eliminate A n a stride base i) x ≡ assign A n a stride base x i (upto lo hi (less A n a stride base i x) (element A n a stride base x i))
+  row-by lo hi ne = ap (upto lo hi (eliminate A n a stride base i)) (sym (set-getD x (i * stride + base) (zeroOf A))) ∙ eliminated lo hi ne (element A n a stride base x i)
+
+  pub forward-by : upto 0 i (eliminate A n a stride base i) x ≡ assign A n a stride base x i (upto 0 i (less A n a stride base i x) (element A n a stride base x i))
+  forward-by = row-by 0 i (λ k l h e. omega arith)
 
   pub backRow-by : backRow A n a stride base i x ≡ assign A n a stride base x i (A .div (upto (i + 1) n (less A n a stride base i x) (element A n a stride base x i)) (cell A n a i i))
   unfolding backRow divide
   backRow-by =
       let v = upto (i + 1) n (less A n a stride base i x) (element A n a stride base x i) in
-      ap (divide A n a stride base i)
-      (ap (upto (i + 1) n (eliminate A n a stride base i)) (sym (set-getD x (i * stride + base) (zeroOf A))) ∙ eliminated (i + 1) n (λ k l h e. omega arith) (element A n a stride base x i))
+      ap (divide A n a stride base i) (row-by (i + 1) n (λ k l h e. omega arith))
       ∙ set-set x (i * stride + base) v _
       ∙ ap (λ (u : R). set x (i * stride + base) (A .div u (cell A n a i i))) (getD-set-same x (i * stride + base) v (zeroOf A) inside)

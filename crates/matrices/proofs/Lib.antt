@@ -14,8 +14,9 @@ pub mod Parity
 pub mod Slopes
 -- rows of floats are rows of records
 pub mod RowsOfRecords
--- for the code over a record: its inner loops, and the two ways out of an entry
+-- for the code over a record: its inner loops, the starts of solve and inverse, and the two ways out of an entry
 pub mod Inner
+pub mod Starts
 pub mod Answers
 -- what they ask of a record, and the code over it function by function
 pub mod Laws

@@ -1,34 +1,38 @@
 -- The code over any record, function by function: its loops' invariants, a turn of each, and what a function's calls amount to. Each record's proofs cite these. Assumes nothing.
-use Prim.Native.Nat.{ℕ, _+_, _*_, _%_, _≤_, _<_}
-use mathlib.Core.Path.{_≡_, refl, ap, sym, _∙_}
+use Prim.Native.Nat.{ℕ, _+_, _-_, _*_, _%_, _≤_, _<_}
+use mathlib.Core.Path.{_≡_, refl, ap, sym, subst, _∙_}
 use mathlib.Core.List.{List}
 use native.Mathlib.Nat.{mul-le-mul-right}
 use native.Mathlib.Omega.{arith}
 use lib.ListN.{length, getD, set, replicate}
+use lib.Seq.{sets}
 use lib.Ieee.{Float}
 use borrow.Author.Tests.{eq-eqb, ne-eqb}
 use Rattle.real.specs.Operations as float
-use Rattle.algebra.specs.Algebra.{Algebra, zeroOf}
-use Rattle.algebra.specs.Flat.{Layout, decode, encode}
+use Rattle.algebra.specs.Algebra.{Algebra, zeroOf, oneOf}
+use Rattle.algebra.specs.Flat.{Layout, tabulate, decode, encode}
 use Rattle.algebra.specs.Loop.{upto}
 use Rattle.algebra.specs.Outcome.{value, refused}
-use Rattle.algebra.proofs.Flat.{decode-length, record-there, encode-decode, tabulate-length}
+use Rattle.algebra.proofs.Flat.{decode-length, decode-size, record-there, decode-at, decode-store, encode-decode, decode-blank, tabulate-length, tabulate-at}
+use Rattle.algebra.proofs.Inside.{getD-inside}
 use Rattle.algebra.proofs.Loop.{upto-turn, upto-end}
 use Rattle.matrices.specs.Entries.{luRefusal, solveRefusal, inverseRefusal, determinantRefusal, LuLeft, luAnswered, luFinish, luLeft, solveAnswered, solveLeft, inverseLeft, determinantLeft}
 use Rattle.matrices.specs.Determinant.{diagonal, determinantOf}
-use Rattle.matrices.specs.Inverse.{inverseOf}
+use Rattle.matrices.specs.Inverse.{units, inverseOf}
 use Rattle.matrices.specs.Lu.{going, subtract, reduceRow, reduce, reduceRun, column, numbers, luOf}
 use Rattle.matrices.specs.Matrix.{Square, Row, cell, store}
 use Rattle.matrices.specs.Order.{Order}
-use Rattle.matrices.specs.Solve.{Strided, less, backRow, solveOf}
+use Rattle.matrices.specs.Solve.{Strided, less, eliminate, forwardFrom, backRow, back, substituteFrom, solveOf}
 use Rattle.matrices.specs.Steps.{runAfter, swapsOf}
 use Rattle.matrices.specs.declared.Step.{Step}
 use Rattle.matrices.specs.declared.Step.the-variants.{Singular, Going}
 use Rattle.matrices.proofs.Answers.{lu-fits, solve-fits, inverse-fits, determinant-fits, lu-done, solve-done, inverse-done, determinant-done, finish-done, finish-singular}
-use Rattle.matrices.proofs.Inner.{subtract-by, multiplier-stays, multiplier-is, backRow-by}
+use Rattle.matrices.proofs.Fill.{Filled, filled-more, filled-all}
+use Rattle.matrices.proofs.Inner.{subtract-by, multiplier-stays, multiplier-is, forward-by, backRow-by}
 use Rattle.matrices.proofs.Laws.{Laws}
 use Rattle.matrices.proofs.Lu.{run-stops}
 use Rattle.matrices.proofs.Odd.{odd-mod}
+use Rattle.matrices.proofs.Starts.{solve-by, inverse-by}
 
 module _ {R : Type 0} {A : Algebra R} {L : Layout R} (Q : Laws A L) where
   -- ---- records in floats
@@ -37,9 +41,24 @@ module _ {R : Type 0} {A : Algebra R} {L : Layout R} (Q : Laws A L) where
   pub held : (l : List Float) (p : ℕ) → p * L .width + L .width ≤ length l → p < length (decode L l)
   held l p h = let z = Q .lawful .positive in omega (arith, decode-length L (Q .lawful) l, record-there L (Q .lawful) l p (omega arith))
 
+  -- floats of k whole records hold k
+  pub holds : (l : List Float) (k : ℕ) → length l ≡ k * L .width → length (decode L l) ≡ k
+  holds l k h = decode-length L (Q .lawful) l ∙ decode-size L (Q .lawful) l k h
+
   -- floats of k whole records are the parts of what they hold
   pub parts-of : (l : List Float) (k : ℕ) (m : List R) → length l ≡ k * L .width → decode L l ≡ m → l ≡ encode L m
   parts-of l k m h e = sym (encode-decode L (Q .lawful) l k h) ∙ ap (encode L) e
+
+  -- record p, from its floats as the code reads them (a float that is not there counts as e)
+  pub read-at : (l : List Float) (p : ℕ) (e : Float) → p * L .width + (L .width - 1) < length l → L .make (λ i. getD l (p * L .width + i) e) ≡ getD (decode L l) p (zeroOf A)
+  read-at l p e h =
+      let z = Q .lawful .positive in
+      Q .lawful .reads (λ i. getD l (p * L .width + i) e) (λ i. getD l (p * L .width + i) float.zero) (λ i b. getD-inside l (p * L .width + i) e float.zero (omega arith))
+      ∙ sym (decode-at L (Q .lawful) l p (zeroOf A) (record-there L (Q .lawful) l p h))
+
+  -- its parts stored are the record stored
+  pub write-at : (l : List Float) (p : ℕ) (x : R) → p * L .width + (L .width - 1) < length l → decode L (sets l (p * L .width) (L .parts x)) ≡ set (decode L l) p x
+  write-at l p x h = decode-store L (Q .lawful) l p x (record-there L (Q .lawful) l p h)
 
   -- ---- a loop over one lent buffer of records: before turn k, what is left to run gives the whole
 
@@ -171,7 +190,14 @@ module _ {R : Type 0} {A : Algebra R} {L : Layout R} (Q : Laws A L) where
         finish-singular A L (Q .lawful) n (luOf A n (decode L a)) g z c (whole ∙ ap (λ (s : Step). runAfter s (decode L m) p) e)
         (eg ∙ ap (λ (k : ℕ). replicate k float.zero) full) (ez ∙ ap (λ (k : ℕ). replicate k 0) (ordered ∙ numbered ∙ long))
 
-  -- ---- solving: the last element first
+  -- ---- solving: an element from what stands in its place, forward and back
+
+  pub forwarded : (n stride base i : ℕ) (a x x′ : List Float) (u r : R) → Strided (L .width) n stride base x → (i * stride + base) * L .width + L .width ≤ length x
+      → u ≡ getD (decode L x) (i * stride + base) (zeroOf A) → r ≡ upto 0 i (less A n (decode L a) stride base i (decode L x)) u
+      → decode L x′ ≡ set (decode L x) (i * stride + base) r → decode L x′ ≡ upto 0 i (eliminate A n (decode L a) stride base i) (decode L x)
+  forwarded n stride base i a x x′ u r s h eu er e =
+      e ∙ ap (set (decode L x) (i * stride + base)) (er ∙ ap (upto 0 i (less A n (decode L a) stride base i (decode L x))) eu)
+      ∙ sym (forward-by A n (decode L a) stride base (s .some) (decode L x) i (held x (i * stride + base) h))
 
   pub backed : (n stride base i : ℕ) (a x x′ : List Float) (u r v y : R) → Strided (L .width) n stride base x → (i * stride + base) * L .width + L .width ≤ length x
       → u ≡ getD (decode L x) (i * stride + base) (zeroOf A) → r ≡ upto (i + 1) n (less A n (decode L a) stride base i (decode L x)) u → v ≡ getD (decode L a) (i * n + i) (zeroOf A) → y ≡ A .div r v
@@ -180,6 +206,60 @@ module _ {R : Type 0} {A : Algebra R} {L : Layout R} (Q : Laws A L) where
   backed n stride base i a x x′ u r v y s h eu er ev ey e =
       e ∙ ap (set (decode L x) (i * stride + base)) (ey ∙ (λ t. A .div ((er ∙ ap (upto (i + 1) n (less A n (decode L a) stride base i (decode L x))) eu) t) (ev t)))
       ∙ sym (backRow-by A n (decode L a) stride base (s .some) (decode L x) i (held x (i * stride + base) h))
+
+  -- forward, then back
+  pub substituted : (n stride base : ℕ) (a x x′ x″ : List Float) → decode L x′ ≡ forwardFrom A n (decode L a) stride base (decode L x) → decode L x″ ≡ back A n (decode L a) stride base (decode L x′)
+      → decode L x″ ≡ substituteFrom A n (decode L a) stride base (decode L x)
+  unfolding substituteFrom
+  substituted n stride base a x x′ x″ e f = f ∙ ap (back A n (decode L a) stride base) e
+
+  -- ---- solve: the starts written, then the run
+
+  -- before element i: those below it hold their starts
+  pub record Starting (f : ℕ → R) (x₀ x : List Float) (i : ℕ) : Type 0 where
+    pub size : length x ≡ length x₀
+    pub filled : Filled (zeroOf A) f (decode L x) i
+
+  pub starting : (f : ℕ → R) (x : List Float) → Starting f x x 0
+  starting f x = record { size = refl; filled = λ k h. absurd (omega arith) }
+
+  pub start-turn : (f : ℕ → R) (n : ℕ) (x₀ x x′ : List Float) (i : ℕ) (u : R) → Starting f x₀ x i → i < n → length x₀ ≡ n * L .width → length x′ ≡ length x → u ≡ f i → decode L x′ ≡ set (decode L x) i u
+      → Starting f x₀ x′ (i + 1)
+  start-turn f n x₀ x x′ i u t h z s eu e = record {
+    size = s ∙ t .size;
+    filled = subst (λ (l : List R). Filled (zeroOf A) f l (i + 1)) (sym (e ∙ ap (set (decode L x) i) eu)) (filled-more (zeroOf A) f (decode L x) i (omega (arith, h, holds x n (t .size ∙ z))) (t .filled));
+  }
+
+  pub start-end : (f : ℕ → R) (n : ℕ) (x₀ x : List Float) (i : ℕ) → Starting f x₀ x i → n ≤ i → length x₀ ≡ n * L .width → decode L x ≡ tabulate f n 0
+  start-end f n x₀ x i t h z =
+      let k = holds x n (t .size ∙ z) in
+      filled-all (zeroOf A) f (decode L x) (tabulate f n 0) i (omega arith) (k ∙ sym (tabulate-length f n 0)) (t .filled) (λ j b. tabulate-at f n 0 j (zeroOf A) (omega arith) ∙ ap f (omega arith))
+
+  pub solved : (n : ℕ) (a b x′ x″ : List Float) (p : List ℕ) → decode L x′ ≡ tabulate (λ k. getD (decode L b) (getD p k 0) (zeroOf A)) n 0 → decode L x″ ≡ substituteFrom A n (decode L a) 1 0 (decode L x′)
+      → decode L x″ ≡ solveOf A n (decode L a) p (decode L b)
+  solved n a b x′ x″ p e f = f ∙ ap (substituteFrom A n (decode L a) 1 0) e ∙ sym (solve-by A n (decode L a) p (decode L b))
+
+  -- ---- inverse: the ones and zeros written, then a run down each column
+
+  -- the one of row i
+  abbrev pub oneInRow : ℕ → List ℕ → ℕ → List R → List R
+  oneInRow n p i x = store A n x i (getD p i 0) (oneOf A)
+
+  pub ones-start : (n : ℕ) (p : List ℕ) (x x₁ : List Float) → Square (L .width) n x → x₁ ≡ replicate (length x) float.zero → Running (oneInRow n p) n x₁ x₁ 0 (units A n p)
+  unfolding units
+  ones-start n p x x₁ s e = record {
+    size = refl;
+    rest = ap (λ (l : List R). upto 0 n (oneInRow n p) l) (ap (decode L) (e ∙ ap (λ (k : ℕ). replicate k float.zero) (s .full)) ∙ decode-blank L (Q .lawful) A (Q .agrees) (n * n));
+  }
+
+  pub ones-turn : (n : ℕ) (p : List ℕ) (x₀ x x′ : List Float) (i : ℕ) → Running (oneInRow n p) n x₀ x i (units A n p) → i < n → length x′ ≡ length x → decode L x′ ≡ set (decode L x) (i * n + getD p i 0) (oneOf A)
+      → Running (oneInRow n p) n x₀ x′ (i + 1) (units A n p)
+  unfolding store
+  ones-turn n p x₀ x x′ i r h s e = run-turn (oneInRow n p) n x₀ x x′ i (units A n p) r h s e
+
+  pub inverse-start : (n : ℕ) (a : List Float) (p : List ℕ) (x : List Float) → Order n p → decode L x ≡ units A n p
+      → Running (λ j. substituteFrom A n (decode L a) n j) n x x 0 (inverseOf A n (decode L a) p)
+  inverse-start n a p x o e = record { size = refl; rest = ap (upto 0 n (λ j. substituteFrom A n (decode L a) n j)) e ∙ sym (inverse-by A n (decode L a) p o) }
 
   -- ---- the entries: what a refusal's number 0 allows, and what is then answered
 

@@ -6,6 +6,7 @@ use lib.Dec.{eqb}
 use lib.ListN.{getD, replicate}
 use Rattle.algebra.specs.Algebra.{Algebra, zeroOf, oneOf}
 use Rattle.algebra.specs.Loop.{upto}
+use Rattle.matrices.specs.Matrix.{store}
 use Rattle.matrices.specs.Solve.{substitute}
 
 module _ {R : Type 0} (A : Algebra R) (n : ℕ) (a : List R) (p : List ℕ) where
@@ -20,3 +21,7 @@ module _ {R : Type 0} (A : Algebra R) (n : ℕ) (a : List R) (p : List ℕ) wher
   -- for j in 0..n
   unfoldable pub inverseOf : List R
   inverseOf = upto 0 n inverseColumn (replicate (n * n) (zeroOf A))
+
+-- the starts of all columns at once: one at row i and column p[i], else zero
+unfoldable pub units : {R : Type 0} → Algebra R → ℕ → List ℕ → List R
+units A n p = upto 0 n (λ i x. store A n x i (getD p i 0) (oneOf A)) (replicate (n * n) (zeroOf A))

@@ -54,6 +54,13 @@ module _ {R : Type 0} (A : Algebra R) (n : ℕ) (a : List R) (stride base : ℕ)
   unfoldable pub substitute : (ℕ → R) → List R → List R
   substitute start x = back (forward start x)
 
+  -- the same from starts that stand in x already (proofs/Starts.antt)
+  unfoldable pub forwardFrom : List R → List R
+  forwardFrom x = upto 0 n (λ i. upto 0 i (eliminate i)) x
+
+  unfoldable pub substituteFrom : List R → List R
+  substituteFrom x = back (forwardFrom x)
+
 -- the solution for the right-hand side b: x[i] starts as b[p[i]]
 unfoldable pub solveOf : {R : Type 0} → Algebra R → ℕ → List R → List ℕ → List R → List R
 solveOf A n a p b = substitute A n a 1 0 (λ i. getD b (getD p i 0) (zeroOf A)) (replicate n (zeroOf A))

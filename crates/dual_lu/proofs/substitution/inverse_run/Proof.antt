@@ -1,62 +1,28 @@
-use mathlib.Core.Path.{_≡_, refl, ap, _∙_}
-use Prim.Native.Nat.{ℕ, _≤_, _-_, _*_}
-use denote.Ref.{now}
-use lib.ListN.{length, replicate}
+use Prim.Native.Nat.{_-_}
 use borrow.Author.Needs.{needs}
-use native.Mathlib.Omega.{arith}
 use Rattle.algebra.specs.Flat.{decode}
-use Rattle.algebra.specs.Loop.{upto}
-use Rattle.algebra.proofs.Loop.{upto-turn, upto-end}
 use Rattle.dual.specs.Rules.{dualAlgebra, dualLayout}
+use Rattle.matrices.specs.Inverse.{inverseOf}
 use Rattle.matrices.specs.Matrix.{Square}
+use Rattle.matrices.specs.Solve.{substituteFrom}
 use Rattle.matrices.proofs.Places.{strided-column}
-use Rattle.matrices.specs.Inverse.{inverseColumn, inverseOf}
-use Rattle.real.specs.Operations.{zero}
-use Rattle.algebra.proofs.Flat.{decode-blank}
-use Rattle.dual.proofs.Flat.{dual-lawful, dual-agrees}
+use Rattle.matrices.proofs.Turns.{Running, run-turn, run-end, inverse-start}
+use Rattle.dual_cells.proofs.Cells.{dual-laws}
 use Rattle.dual_lu.proofs.substitution.inverse_run.Statement.{statement}
 use Rattle.dual_lu.proofs.substitution.inverse_run.Tie as tie
 
 abbrev Inv-loop : tie.InvT-loop
-Inv-loop n a order x₀ j₀ x j = (j ≤ n) × ((length x ≡ length x₀) × (upto j n (inverseColumn dualAlgebra n (decode dualLayout a) order) (decode dualLayout x) ≡ upto 0 n (inverseColumn dualAlgebra n (decode dualLayout a) order) (decode dualLayout x₀)))
+Inv-loop n a order x₀ j₀ x j = Running dual-laws (λ k. substituteFrom dualAlgebra n (decode dualLayout a) n k) n x₀ x j (inverseOf dualAlgebra n (decode dualLayout a) order)
 
 abbrev μ-loop : tie.MeasureT-loop
 μ-loop n a order x₀ j₀ x j = n - j
 
-clear-requires : tie.Need-clear-requires Inv-loop μ-loop
-clear-requires c κs = search needs
-
-loop-holds : tie.Need-loop-holds Inv-loop μ-loop
-loop-holds c = (omega arith, (refl, refl))
-
-inverse-column-requires : tie.Need-inverse-column-requires Inv-loop μ-loop
-inverse-column-requires c κs =
+run-requires : tie.Need-run-requires Inv-loop μ-loop
+run-requires c κs =
     let at = c .before .before in
-    let s = c .before .before .before .before .before .before .before .before .before .before in
+    let s = at .before .before .before .before .before .before .before .before in
     let sq : Square 2 (s .args .n) (at .loop .x) = search needs in
-    (search needs, (search needs, strided-column 2 _ _ _ sq (c .before .loop-test .taken)))
-
-add-j : tie.Need-add-j Inv-loop μ-loop
-add-j c = search needs
-
-loop-less : tie.Need-loop-less Inv-loop μ-loop
-loop-less c = search needs
-
-loop-again : tie.Need-loop-again Inv-loop μ-loop
-loop-again c =
-    let at = c .before .before .before .before .before in
-    (omega arith, (search needs, upto-turn (at .loop .j) _ _ (decode dualLayout (at .loop .x)) _ (c .before .before .before .before .loop-test .taken) (c .before .before .inverse-column .ensures) (at .loop .inv .1 .1)))
-
-same-length : tie.Need-same-length Inv-loop μ-loop
-same-length c = search needs
-
-returns : tie.Need-returns Inv-loop μ-loop
-unfolding inverseOf
-returns c =
-    let s = c .before .before .before .before .before .before .before .before .before in
-    let n = s .args .n in
-    let blank = ap (decode dualLayout) (c .before .before .before .before .clear .ensures ∙ ap (λ (k : ℕ). replicate k zero) (s .pre .1 .1 .full)) ∙ decode-blank dualLayout dual-lawful dualAlgebra dual-agrees (n * n) in
-    upto-end (c .before .loop .j) _ _ _ (c .loop-test .left) (c .before .loop .inv .1 .1) ∙ ap (upto 0 n (inverseColumn dualAlgebra n (decode dualLayout (now (s .args .a))) (now (s .args .order)))) blank
+    (search needs, strided-column 2 _ _ _ sq (c .before .loop-test .taken))
 
 pub inverse-run-spec : {M : Type 1} → statement M
 inverse-run-spec =
@@ -64,11 +30,11 @@ inverse-run-spec =
     (tie.spec
     Inv-loop
     μ-loop
-    clear-requires
-    loop-holds
-    inverse-column-requires
-    add-j
-    loop-less
-    loop-again
-    same-length
-    returns)
+    (λ c κs. search needs)
+    (λ c. search (needs, inverse-start dual-laws))
+    run-requires
+    (λ c. search needs)
+    (λ c. search needs)
+    (λ c. search (needs, run-turn dual-laws))
+    (λ c. search needs)
+    (λ c. search (needs, run-end dual-laws)))

@@ -1,44 +1,16 @@
-use mathlib.Core.Path.{_≡_, ap, _∙_}
-use Prim.Native.Nat.{ℕ, _*_}
-use denote.Ref.{now}
-use lib.ListN.{length, getD, replicate}
 use borrow.Author.Needs.{needs}
 use native.Mathlib.Omega.{arith}
-use Rattle.algebra.specs.Algebra.{zeroOf}
-use Rattle.algebra.specs.Flat.{decode}
-use Rattle.dual.specs.Rules.{dualAlgebra, dualLayout}
-use Rattle.matrices.specs.Solve.{forward, back, substitute, solveOf}
 use Rattle.matrices.proofs.Places.{strided-whole}
-use Rattle.dual.specs.declared.Dual.{Dual}
-use Rattle.real.specs.Operations.{zero}
-use Rattle.algebra.proofs.Flat.{decode-blank}
-use Rattle.dual.proofs.Flat.{dual-lawful, dual-agrees}
+use Rattle.matrices.proofs.Turns.{solved}
+use Rattle.dual_cells.proofs.Cells.{dual-laws}
 use Rattle.dual_lu.proofs.substitution.solve_run.Statement.{statement}
 use Rattle.dual_lu.proofs.substitution.solve_run.Tie as tie
-
-clear-requires : tie.Need-clear-requires
-clear-requires c κs = search needs
-
-solve-forward-requires : tie.Need-solve-forward-requires
-solve-forward-requires c κs = (search needs, (search needs, (search needs, strided-whole 2 _ _ (omega arith))))
-
-run-back-requires : tie.Need-run-back-requires
-run-back-requires c κs = (search needs, strided-whole 2 _ _ (omega arith))
-
-same-length : tie.Need-same-length
-same-length c = search needs
-
-returns : tie.Need-returns
-unfolding solveOf substitute
-returns c =
-    let s = c .before .before .before .before .before .before .before .before .before .before .before .before .before .before .before .before .args in
-    let start : ℕ → Dual = λ k. getD (decode dualLayout (now (s .b))) (getD (now (s .order)) k 0) (zeroOf dualAlgebra) in
-    let a = decode dualLayout (now (s .a)) in
-    let h : length (now (s .x)) ≡ s .n * 2 = omega arith in
-    let blank = ap (decode dualLayout) (c .before .before .before .before .before .before .before .before .before .before .clear .ensures ∙ ap (λ (k : ℕ). replicate k zero) h) ∙ decode-blank dualLayout dual-lawful dualAlgebra dual-agrees (s .n) in
-    c .before .before .run-back .ensures ∙ ap (back dualAlgebra (s .n) a 1 0) (c .before .before .before .before .before .before .solve-forward .ensures ∙ ap (forward dualAlgebra (s .n) a 1 0 start) blank)
 
 pub solve-run-spec : {M : Type 1} → statement M
 solve-run-spec =
     tie.close
-    (tie.spec clear-requires solve-forward-requires run-back-requires same-length returns)
+    (tie.spec
+    (λ c κs. search needs)
+    (λ c κs. (search needs, strided-whole 2 _ _ (omega arith)))
+    (λ c. search needs)
+    (λ c. search (needs, solved dual-laws)))
