@@ -1,21 +1,22 @@
-//! The original's LU, solve, determinant, inverse and Jacobi over `Dual`, each checked against the
-//! counting copy.
+//! The original's LU, solve, determinant and inverse over a record, `Dual` unless another is named,
+//! and Jacobi over `Dual`, each checked against the counting copy.
 use crate::counting;
 use crate::original::Dual;
 use crate::original::linalg::{LU, jacobi_eigenvalue, smallest_ev};
+use crate::record::Record;
 use crate::words::words;
 use nalgebra::{Dyn, OMatrix, OVector, U1};
 
 pub type Entry = Dual<f64>;
 
 /// Records row by row.
-pub type Entries = Vec<Entry>;
+pub type Entries<T = Entry> = Vec<T>;
 
 /// What LU leaves: the factors row by row, the order, and the swap count.
 #[derive(Clone, Debug)]
-pub struct Factors {
+pub struct Factors<T = Entry> {
     pub n: usize,
-    pub entries: Entries,
+    pub entries: Entries<T>,
     pub order: Vec<usize>,
     pub swaps: usize,
 }
@@ -29,15 +30,15 @@ pub struct Eigen {
 }
 
 /// The words of each record, for comparison and for writing.
-pub fn entry_words(entry: &Entry) -> Vec<u64> {
-    words(&[entry.re, entry.eps])
+pub fn entry_words<T: Record<f64>>(entry: &T) -> Vec<u64> {
+    words(&entry.parts())
 }
 
-fn all_words(entries: &[Entry]) -> Vec<u64> {
+fn all_words<T: Record<f64>>(entries: &[T]) -> Vec<u64> {
     entries.iter().flat_map(entry_words).collect()
 }
 
-fn square(n: usize, entries: &[Entry]) -> OMatrix<Entry, Dyn, Dyn> {
+fn square<T: Copy>(n: usize, entries: &[T]) -> OMatrix<T, Dyn, Dyn> {
     OMatrix::from_iterator_generic(Dyn(n), Dyn(n), entries.iter().copied())
 }
 
@@ -46,7 +47,7 @@ fn column<T: Copy>(entries: &[T]) -> OVector<T, Dyn> {
 }
 
 /// The factors, or the column at which the matrix is singular.
-pub fn lu(n: usize, entries: &[Entry]) -> Result<Factors, usize> {
+pub fn lu<T: Record<f64>>(n: usize, entries: &[T]) -> Result<Factors<T>, usize> {
     let original = LU::new(square(n, entries));
     let counted = counting::lu(square(n, entries));
     match (original, counted) {
@@ -61,20 +62,20 @@ pub fn lu(n: usize, entries: &[Entry]) -> Result<Factors, usize> {
     }
 }
 
-impl Factors {
-    fn original(&self) -> LU<Entry, Dyn> {
+impl<T: Record<f64>> Factors<T> {
+    fn original(&self) -> LU<T, Dyn> {
         LU::from_parts(square(self.n, &self.entries), column(&self.order), self.swaps)
     }
 
-    pub fn solve(&self, b: &[Entry]) -> Entries {
+    pub fn solve(&self, b: &[T]) -> Entries<T> {
         self.original().solve(&column(b)).entries().to_vec()
     }
 
-    pub fn determinant(&self) -> Entry {
+    pub fn determinant(&self) -> T {
         self.original().determinant()
     }
 
-    pub fn inverse(&self) -> Entries {
+    pub fn inverse(&self) -> Entries<T> {
         self.original().inverse().entries().to_vec()
     }
 }

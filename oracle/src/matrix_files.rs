@@ -1,19 +1,53 @@
-//! The answer files of the matrices over `Dual`.
+//! The answer files of the matrices over `Dual` and over `HyperDual`.
 use crate::matrices::{Entry, Factors, entry_words, jacobi, lu};
 use crate::matrix_requests::{
-    GENERAL, LIMITS, Matrix, SYMMETRIC, explicit, explicit_symmetric, lent, matrix, singular, size,
-    vector,
+    GENERAL, LIMITS, Matrix, SYMMETRIC, explicit, explicit_symmetric, lent, matrix, matrix_of,
+    singular, size, vector,
 };
+use crate::original::HyperDual;
 use crate::random::Random;
+use crate::record::Record;
 use crate::words::hex_line;
 use crate::write::{Answers, Run};
 
+/// What the files over a record are called, and how many cases LU and the other three get.
+#[derive(Copy, Clone)]
+struct Over {
+    suffix: &'static str,
+    record: &'static str,
+    lu: usize,
+    factors: usize,
+    seed: u64,
+}
+
 pub fn all(run: Run) -> Vec<Answers> {
-    vec![lu_file(run), solve_file(run), determinant_file(run), inverse_file(run), jacobi_file(run)]
+    let (cases, seed) = (run.cases, run.seed);
+    let dual = Over { suffix: "", record: "Dual", lu: cases, factors: cases / 2, seed };
+    let fewer = cases * 8 / 25;
+    let hyperdual =
+        Over { suffix: "-hyperdual", record: "HyperDual", lu: fewer, factors: cases / 5, seed };
+    let mut files = over::<Entry>(dual);
+    files.push(jacobi_file(run));
+    files.extend(over::<HyperDual<f64>>(hyperdual));
+    files
+}
+
+fn over<T: Record<f64>>(over: Over) -> Vec<Answers> {
+    vec![lu_file::<T>(over), solve_file::<T>(over), determinant_file::<T>(over), inverse_file::<T>(over)]
+}
+
+impl Over {
+    fn random(self, name: &str) -> Random {
+        Random::new(self.seed, &format!("{name}{}", self.suffix))
+    }
+
+    fn file(self, name: &str, about: &str, cases: Vec<String>) -> Answers {
+        file(&format!("{name}{}", self.suffix), &format!("{about} over {}.", self.record), cases)
+    }
 }
 
 /// One record a line.
-fn lines(entries: &[Entry]) -> Vec<String> {
+fn lines<T: Record<f64>>(entries: &[T]) -> Vec<String> {
     entries.iter().map(|entry| hex_line(&entry_words(entry))).collect()
 }
 
@@ -27,15 +61,19 @@ fn file(name: &str, about: &str, cases: Vec<String>) -> Answers {
     Answers { name: format!("{name}.txt"), about: about.to_string(), before: vec![], cases, counts }
 }
 
-fn lu_file(run: Run) -> Answers {
-    let mut random = Random::new(run.seed, "lu");
-    let cases = lu_matrices(&mut random, run.cases).iter().map(lu_case).collect();
-    file("lu", "LU of matrices over Dual.", cases)
+fn lu_file<T: Record<f64>>(over: Over) -> Answers {
+    let mut random = over.random("lu");
+    let cases = lu_requests::<T>(&mut random, over.lu).iter().map(lu_case).collect();
+    over.file("lu", "LU of matrices", cases)
 }
 
 /// Those that show a rule, one singular at every column of small sizes and at both ends of the
 /// largest (every column of every size in a large run), then each style in turn.
 pub fn lu_matrices(random: &mut Random, cases: usize) -> Vec<Matrix> {
+    lu_requests(random, cases)
+}
+
+fn lu_requests<T: Record<f64>>(random: &mut Random, cases: usize) -> Vec<Matrix<T>> {
     let mut matrices = explicit();
     let largest = if cases < 1000 { 6 } else { 32 };
     for n in 1..=largest {
@@ -44,12 +82,12 @@ pub fn lu_matrices(random: &mut Random, cases: usize) -> Vec<Matrix> {
     matrices.push(singular(random, 32, 31));
     for i in 0..cases {
         let n = size(random, i);
-        matrices.push(matrix(random, n, GENERAL[i % GENERAL.len()]));
+        matrices.push(matrix_of(random, n, GENERAL[i % GENERAL.len()]));
     }
     matrices
 }
 
-fn lu_case(matrix: &Matrix) -> String {
+fn lu_case<T: Record<f64>>(matrix: &Matrix<T>) -> String {
     let mut text = lines(&matrix.entries);
     let head = match lu(matrix.n, &matrix.entries) {
         Ok(factors) => {
@@ -65,27 +103,27 @@ fn lu_case(matrix: &Matrix) -> String {
 
 /// Factors for the functions that take them: every other made by LU, the rest lent. Which of the two
 /// the odd places are changes every 128, so that large ones are of both kinds.
-fn factors(random: &mut Random, cases: usize) -> Vec<Factors> {
-    let mut all: Vec<Factors> =
+fn factors<T: Record<f64>>(random: &mut Random, cases: usize) -> Vec<Factors<T>> {
+    let mut all: Vec<Factors<T>> =
         (explicit().iter()).filter_map(|matrix| lu(matrix.n, &matrix.entries).ok()).collect();
     for i in 0..cases {
         let n = size(random, i);
         let style = GENERAL[i / 2 % GENERAL.len()];
-        let made = lu(n, &matrix(random, n, style).entries).ok().filter(|_| (i + i / 128) % 2 == 1);
+        let made = lu(n, &matrix_of(random, n, style).entries).ok().filter(|_| (i + i / 128) % 2 == 1);
         all.push(made.unwrap_or_else(|| lent(random, n, style)));
     }
     all
 }
 
-fn factor_lines(factors: &Factors) -> Vec<String> {
+fn factor_lines<T: Record<f64>>(factors: &Factors<T>) -> Vec<String> {
     let mut text = vec![order_line(&factors.order)];
     text.extend(lines(&factors.entries));
     text
 }
 
-fn solve_file(run: Run) -> Answers {
-    let mut random = Random::new(run.seed, "solve");
-    let case = |factors: &Factors| {
+fn solve_file<T: Record<f64>>(over: Over) -> Answers {
+    let mut random = over.random("solve");
+    let case = |factors: &Factors<T>| {
         let b = vector(&mut random, factors.n);
         let mut text = vec![format!("{:02x}", factors.n)];
         text.extend(factor_lines(factors));
@@ -93,30 +131,30 @@ fn solve_file(run: Run) -> Answers {
         text.extend(lines(&factors.solve(&b)));
         text.join("\n")
     };
-    let all = factors(&mut Random::new(run.seed, "solve factors"), run.cases / 2);
-    file("solve", "Solutions by factors over Dual.", all.iter().map(case).collect())
+    let all = factors(&mut over.random("solve factors"), over.factors);
+    over.file("solve", "Solutions by factors", all.iter().map(case).collect())
 }
 
-fn determinant_file(run: Run) -> Answers {
-    let case = |factors: &Factors| {
+fn determinant_file<T: Record<f64>>(over: Over) -> Answers {
+    let case = |factors: &Factors<T>| {
         let mut text = vec![format!("{:02x} {:02x}", factors.n, factors.swaps)];
         text.extend(factor_lines(factors));
         text.extend(lines(&[factors.determinant()]));
         text.join("\n")
     };
-    let all = factors(&mut Random::new(run.seed, "determinant factors"), run.cases / 2);
-    file("determinant", "Determinants by factors over Dual.", all.iter().map(case).collect())
+    let all = factors(&mut over.random("determinant factors"), over.factors);
+    over.file("determinant", "Determinants by factors", all.iter().map(case).collect())
 }
 
-fn inverse_file(run: Run) -> Answers {
-    let case = |factors: &Factors| {
+fn inverse_file<T: Record<f64>>(over: Over) -> Answers {
+    let case = |factors: &Factors<T>| {
         let mut text = vec![format!("{:02x}", factors.n)];
         text.extend(factor_lines(factors));
         text.extend(lines(&factors.inverse()));
         text.join("\n")
     };
-    let all = factors(&mut Random::new(run.seed, "inverse factors"), run.cases / 2);
-    file("inverse", "Inverses by factors over Dual.", all.iter().map(case).collect())
+    let all = factors(&mut over.random("inverse factors"), over.factors);
+    over.file("inverse", "Inverses by factors", all.iter().map(case).collect())
 }
 
 fn jacobi_file(run: Run) -> Answers {

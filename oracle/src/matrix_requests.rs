@@ -1,12 +1,26 @@
-//! Requests for matrices over `Dual`, by seed.
+//! Requests for matrices over a record, `Dual` unless another is named, by seed.
 use crate::matrices::{Entries, Entry, Factors};
-use crate::original::Dual;
 use crate::random::Random;
+use crate::record::Record;
 
 #[derive(Clone)]
-pub struct Matrix {
+pub struct Matrix<T = Entry> {
     pub n: usize,
-    pub entries: Entries,
+    pub entries: Entries<T>,
+}
+
+/// The record of a real part, its slopes in the order of its parts.
+fn record<T: Record<f64>>(re: f64, mut slope: impl FnMut() -> f64) -> T {
+    let parts = T::zero().parts().len();
+    let slopes = (1..parts).map(|_| slope());
+    T::of(&[re].into_iter().chain(slopes).collect::<Vec<f64>>())
+}
+
+/// The record with another real part.
+fn with_re<T: Record<f64>>(entry: T, re: f64) -> T {
+    let mut parts = entry.parts();
+    parts[0] = re;
+    T::of(&parts)
 }
 
 /// Sweep limits in turn.
@@ -40,21 +54,28 @@ pub fn size(random: &mut Random, i: usize) -> usize {
 }
 
 pub fn matrix(random: &mut Random, n: usize, style: Style) -> Matrix {
+    matrix_of(random, n, style)
+}
+
+/// Over any record.
+pub fn matrix_of<T: Record<f64>>(random: &mut Random, n: usize, style: Style) -> Matrix<T> {
     let mut matrix = Matrix { n, entries: vec![] };
     let common = [1.0, 49.0, 0.1][random.below(3)];
     for r in 0..n {
         for c in 0..n {
             let re = real(random, style, r, c, common);
-            matrix.entries.push(Dual { re, eps: slope(random) });
+            matrix.entries.push(record(re, || slope(random)));
         }
     }
     match style {
         EqualRows if n > 1 => equal_rows(random, &mut matrix),
         OneEdge if n > 0 => {
             let place = random.below(n * n);
-            matrix.entries[place].re = edge(random);
+            matrix.entries[place] = with_re(matrix.entries[place], edge(random));
         }
-        Sorted => (0..n).for_each(|r| matrix.entries[r * n + r].re = r as f64),
+        Sorted => (0..n).for_each(|r| {
+            matrix.entries[r * n + r] = with_re(matrix.entries[r * n + r], r as f64);
+        }),
         _ => {}
     }
     matrix
@@ -117,25 +138,26 @@ fn slope(random: &mut Random) -> f64 {
 }
 
 /// One row becomes another, in real parts.
-fn equal_rows(random: &mut Random, matrix: &mut Matrix) {
+fn equal_rows<T: Record<f64>>(random: &mut Random, matrix: &mut Matrix<T>) {
     let n = matrix.n;
     let from = random.below(n);
     let to = (from + 1 + random.below(n - 1)) % n;
     for c in 0..n {
-        matrix.entries[to * n + c].re = matrix.entries[from * n + c].re;
+        let re = matrix.entries[from * n + c].parts()[0];
+        matrix.entries[to * n + c] = with_re(matrix.entries[to * n + c], re);
     }
 }
 
 /// Singular at exactly this column: rows of an upper triangle in any order, whose diagonal has a
 /// zero there. Slopes are as anywhere.
-pub fn singular(random: &mut Random, n: usize, column: usize) -> Matrix {
-    let mut rows: Vec<Entries> =
+pub fn singular<T: Record<f64>>(random: &mut Random, n: usize, column: usize) -> Matrix<T> {
+    let mut rows: Vec<Entries<T>> =
         (0..n).map(|r| (0..n).map(|c| triangle_entry(random, r, c, column)).collect()).collect();
     random.shuffle(&mut rows);
     Matrix { n, entries: rows.concat() }
 }
 
-fn triangle_entry(random: &mut Random, r: usize, c: usize, column: usize) -> Entry {
+fn triangle_entry<T: Record<f64>>(random: &mut Random, r: usize, c: usize, column: usize) -> T {
     let zero = if random.chance(50) { 0.0 } else { -0.0 };
     let re = match (r > c, r == c) {
         (true, _) => zero,
@@ -143,25 +165,26 @@ fn triangle_entry(random: &mut Random, r: usize, c: usize, column: usize) -> Ent
         (_, true) => 1.0 + random.small(3).abs(),
         _ => random.small(3),
     };
-    Dual { re, eps: random.small(3) }
+    record(re, || random.small(3))
 }
 
-pub fn vector(random: &mut Random, n: usize) -> Entries {
+pub fn vector<T: Record<f64>>(random: &mut Random, n: usize) -> Entries<T> {
     let re = |random: &mut Random| match random.below(6) {
         0 => edge(random),
         1 | 2 => random.small(3),
         _ => random.scaled(-4, 4),
     };
-    (0..n).map(|_| Dual { re: re(random), eps: slope(random) }).collect()
+    (0..n).map(|_| record(re(random), || slope(random))).collect()
 }
 
 /// Factors that LU did not make: any entries, zeros on the diagonal among them, any order, and any
 /// swap count of the order's parity.
-pub fn lent(random: &mut Random, n: usize, style: Style) -> Factors {
-    let mut entries = matrix(random, n, style).entries;
+pub fn lent<T: Record<f64>>(random: &mut Random, n: usize, style: Style) -> Factors<T> {
+    let mut entries: Entries<T> = matrix_of(random, n, style).entries;
     for r in 0..n {
         if random.chance(15) {
-            entries[r * n + r].re = if random.chance(50) { 0.0 } else { -0.0 };
+            let zero = if random.chance(50) { 0.0 } else { -0.0 };
+            entries[r * n + r] = with_re(entries[r * n + r], zero);
         }
     }
     let mut order: Vec<usize> = (0..n).collect();
@@ -176,8 +199,8 @@ fn is_odd(order: &[usize]) -> bool {
     (0..order.len()).map(before).sum::<usize>() % 2 == 1
 }
 
-/// Matrices that show a rule of LU by themselves.
-pub fn explicit() -> Vec<Matrix> {
+/// Matrices that show a rule of LU by themselves; every slope of an entry is the second number.
+pub fn explicit<T: Record<f64>>() -> Vec<Matrix<T>> {
     let tiny = f64::from_bits(1);
     let large = 2f64.powi(1023);
     let nan = f64::NAN;
@@ -221,10 +244,10 @@ pub fn explicit_symmetric() -> Vec<Matrix> {
     ])
 }
 
-fn matrices(all: &[&[(f64, f64)]]) -> Vec<Matrix> {
+fn matrices<T: Record<f64>>(all: &[&[(f64, f64)]]) -> Vec<Matrix<T>> {
     let matrix = |entries: &&[(f64, f64)]| Matrix {
         n: entries.len().isqrt(),
-        entries: entries.iter().map(|(re, eps)| Dual { re: *re, eps: *eps }).collect(),
+        entries: entries.iter().map(|(re, eps)| record(*re, || *eps)).collect(),
     };
     all.iter().map(matrix).collect()
 }

@@ -4,4 +4,4 @@ pub mod RealParts
 -- records in flat floats
 pub mod Flat
 -- this crate's promises leave one answer each
-mod OneAnswer
+pub mod OneAnswer

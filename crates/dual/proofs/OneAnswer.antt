@@ -80,7 +80,7 @@ use Rattle.dual.proofs.operations.product.Kinds as product-k
 use Rattle.dual.proofs.operations.product.Reads as product
 
 -- two answers of one outcome are one
-outcome-one : (x y : DualAnswer) → outcome x ≡ outcome y → x ≡ y
+pub outcome-one : (x y : DualAnswer) → outcome x ≡ outcome y → x ≡ y
 outcome-one (Value x) (Value y) e = cc
 outcome-one (Value x) (Refused n) e = cc
 outcome-one (Refused n) (Value x) e = cc

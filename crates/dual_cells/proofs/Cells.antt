@@ -5,31 +5,31 @@ use mathlib.Core.List.{List}
 use native.Mathlib.Nat.{add-zero, mul-le-mul}
 use native.Mathlib.Numerals.{add-one}
 use native.Mathlib.Omega.{arith}
+use lib.Dec.{lit≤}
 use lib.ListN.{length, getD, set}
 use lib.Ieee.{Float, nan}
-use Rattle.real.specs.Operations as float
 use Rattle.algebra.specs.Algebra.{zeroOf}
-use Rattle.algebra.proofs.Flat.{record-there, decode-at, decode-store}
-use Rattle.algebra.proofs.Inside.{getD-inside}
 use Rattle.dual.specs.Rules.{dual, dualAlgebra, dualLayout}
 use Rattle.dual.specs.declared.Dual.{Dual}
-use Rattle.dual.proofs.Flat.{dual-lawful}
+use Rattle.dual.proofs.Flat.{dual-lawful, dual-agrees}
+use Rattle.dual.proofs.RealParts.{dual-reals}
+use Rattle.matrices.proofs.Laws.{Laws}
 use Rattle.dual_cells.specs.Records.{records}
 use Rattle.matrices.specs.Matrix.{Square}
 use Rattle.matrices.proofs.Places.{place, flat-place}
+use Rattle.matrices.proofs.Turns.{read-at, write-at}
+
+-- what matrices ask of `Dual`
+pub dual-laws : Laws dualAlgebra dualLayout
+dual-laws = record { lawful = dual-lawful; agrees = dual-agrees; real = dual-reals; narrow = lit≤ tt }
 
 -- the two floats from p * 2 on are record number p
 pub read-record : (l : List Float) (p : ℕ) → p * 2 + 1 < length l → dual (getD l (p * 2) nan) (getD l (p * 2 + 1) nan) ≡ getD (records l) p (zeroOf dualAlgebra)
-read-record l p h =
-    (λ i. dual (getD-inside l (p * 2) nan float.zero (omega arith) i) (getD-inside l (p * 2 + 1) nan float.zero h i))
-    ∙ ap (λ (k : ℕ). dual (getD l k float.zero) (getD l (p * 2 + 1) float.zero)) (sym (add-zero (p * 2)))
-    ∙ sym (decode-at dualLayout dual-lawful l p (zeroOf dualAlgebra) (record-there dualLayout dual-lawful l p h))
+read-record l p h = ap (λ (k : ℕ). dual (getD l k nan) (getD l (p * 2 + 1) nan)) (sym (add-zero (p * 2))) ∙ read-at dual-laws l p nan h
 
 -- two floats stored there are one record stored
 pub write-record : (l : List Float) (p : ℕ) (x : Dual) → p * 2 + 1 < length l → records (set (set l (p * 2) (x .re)) (p * 2 + 1) (x .eps)) ≡ set (records l) p x
-write-record l p x h =
-    ap (λ (k : ℕ). records (set (set l (p * 2) (x .re)) k (x .eps))) (add-one (p * 2))
-    ∙ decode-store dualLayout dual-lawful l p x (record-there dualLayout dual-lawful l p h)
+write-record l p x h = ap (λ (k : ℕ). records (set (set l (p * 2) (x .re)) k (x .eps))) (add-one (p * 2)) ∙ write-at dual-laws l p x h
 
 -- row r and column c of n by n records, as the floats lie
 pub record Inside (n r c : ℕ) (l : List Float) : Type 0 where

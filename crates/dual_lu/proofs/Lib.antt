@@ -1,5 +1,4 @@
--- Laws of matrices of `Dual` in lent floats, and what is proved of the entries beside their promises.
-mod Held
+-- What is proved of the entries beside their promises: laws of the crate `matrices` over any record, stated of the contracts here.
 -- no second answer, and no second content of a buffer
 pub mod OneAnswer
 -- the order that LU leaves

@@ -1,24 +1,10 @@
 -- Slopes never steer (demand 3), of the contracts themselves: any two calls of an entry whose sizes, lengths, orders, counts and real parts agree, whatever the
 -- derivative parts and whatever the result's buffers held, give the same answer, column, order and count, and the same real parts of what is written or handed back.
--- `κs`, `a`, `x`, `v` are the one call's lifetimes, arguments, answer and buffers at exit; `κs′`, `a′`, `x′`, `v′` the other's. Assumes nothing.
-use Prim.Native.Nat.{ℕ}
-use mathlib.Core.Path.{_≡_, ap, sym, subst, _∙_}
-use lib.ListN.{length}
-use borrow.Fn.Kinds.{Dens, endedOf}
-use contract.Lifetimes.{Lfts}
-use denote.Ref.{now}
-use denote.Triple.Clauses.{Lasts, atExit}
-use Rattle.algebra.specs.Outcome.{mapOutcome}
-use Rattle.dual.specs.declared.DualAnswer.{DualAnswer}
-use Rattle.dual.specs.Rules.{dualAlgebra, dualLayout, outcome}
-use Rattle.dual.proofs.Flat.{dual-lawful, dual-agrees}
-use Rattle.dual.proofs.RealParts.{dual-reals}
-use Rattle.matrices.specs.Entries.{luAnswered, luLeft, solveAnswered, solveLeft, inverseLeft, determinantLeft}
-use Rattle.matrices.specs.SameReals.{Alike, SameLu, SameSolve}
-use Rattle.matrices.proofs.Answers.{lu-same, solve-same, inverse-same, determinant-same}
-use Rattle.dual_lu.specs.Answers.{luOutcome, luColumn, solveOutcome}
-use Rattle.dual_lu.specs.declared.LuAnswer.{LuAnswer}
-use Rattle.dual_lu.specs.declared.SolveAnswer.{SolveAnswer}
+-- Assumes nothing.
+use Rattle.dual.specs.Rules.{dualAlgebra, outcome}
+use Rattle.matrices.specs.Answers.{luOutcome, luColumn, solveOutcome}
+use Rattle.matrices.proofs.Calls.{LuNeverSteered, lu-never-steered-by, SolveNeverSteered, solve-never-steered-by, InverseNeverSteered, inverse-never-steered-by, DeterminantNeverSteered, determinant-never-steered-by}
+use Rattle.dual_cells.proofs.Cells.{dual-laws}
 use Rattle.dual_lu.proofs.lu.Kinds as lu-k
 use Rattle.dual_lu.proofs.lu.Reads as lu-r
 use Rattle.dual_lu.proofs.solve.Kinds as solve-k
@@ -28,56 +14,14 @@ use Rattle.dual_lu.proofs.determinant.Reads as determinant-r
 use Rattle.dual_lu.proofs.inverse.Kinds as inverse-k
 use Rattle.dual_lu.proofs.inverse.Reads as inverse-r
 
--- what relates two values relates what is equal to them
-carried : {S : Type 0} (T : S → S → Type 0) {x x′ y y′ : S} → x ≡ y → x′ ≡ y′ → T y y′ → T x x′
-carried {S} T {x} {x′} {y} e f t = subst (λ (s : S). T s x′) (sym e) (subst (T y) (sym f) t)
+pub lu-never-steered : LuNeverSteered lu-k.r (λ κs x. luOutcome x) (λ κs x. luColumn x) 2 lu-r.Post
+lu-never-steered = lu-never-steered-by lu-k.r (λ κs x. luOutcome x) (λ κs x. luColumn x) dual-laws
 
--- lu(n, a, factors, order)
-pub lu-never-steered :
-    (κs κs′ : Lfts 3) (a : Dens κs lu-k.ps) (a′ : Dens κs′ lu-k.ps) (x x′ : LuAnswer)
-    (v : Lasts (endedOf 3 lu-k.ps lu-k.r) κs a) (v′ : Lasts (endedOf 3 lu-k.ps lu-k.r) κs′ a′) →
-    lu-r.Post κs a x (atExit (endedOf 3 lu-k.ps lu-k.r) κs a v) →
-    lu-r.Post κs′ a′ x′ (atExit (endedOf 3 lu-k.ps lu-k.r) κs′ a′ v′) →
-    a .0 ≡ a′ .0 → Alike 2 (now (a .1 .0)) (now (a′ .1 .0)) → length (now (a .1 .1 .0)) ≡ length (now (a′ .1 .1 .0)) → length (now (a .1 .1 .1 .0)) ≡ length (now (a′ .1 .1 .1 .0)) →
-    SameLu 2 (luAnswered (luOutcome x) (luColumn x) (v .1 .1 .0) (v .1 .1 .1 .0)) (luAnswered (luOutcome x′) (luColumn x′) (v′ .1 .1 .0) (v′ .1 .1 .1 .0))
-lu-never-steered κs κs′ a a′ x x′ v v′ p p′ n alike f o =
-    carried (SameLu 2) p (p′ ∙ ap (λ (k : ℕ). luLeft dualAlgebra dualLayout k (now (a′ .1 .0)) (now (a′ .1 .1 .0)) (now (a′ .1 .1 .1 .0))) (sym n))
-    (lu-same dualAlgebra dualLayout dual-lawful dual-agrees dual-reals (a .0) _ _ _ _ _ _ (alike .long) (alike .real) f o)
+pub solve-never-steered : SolveNeverSteered solve-k.r (λ κs x. solveOutcome x) 2 solve-r.Post
+solve-never-steered = solve-never-steered-by solve-k.r (λ κs x. solveOutcome x) dual-laws
 
--- solve(n, factors, order, b, x)
-pub solve-never-steered :
-    (κs κs′ : Lfts 4) (a : Dens κs solve-k.ps) (a′ : Dens κs′ solve-k.ps) (x x′ : SolveAnswer)
-    (v : Lasts (endedOf 4 solve-k.ps solve-k.r) κs a) (v′ : Lasts (endedOf 4 solve-k.ps solve-k.r) κs′ a′) →
-    solve-r.Post κs a x (atExit (endedOf 4 solve-k.ps solve-k.r) κs a v) →
-    solve-r.Post κs′ a′ x′ (atExit (endedOf 4 solve-k.ps solve-k.r) κs′ a′ v′) →
-    a .0 ≡ a′ .0 → Alike 2 (now (a .1 .0)) (now (a′ .1 .0)) → now (a .1 .1 .0) ≡ now (a′ .1 .1 .0) → Alike 2 (now (a .1 .1 .1 .0)) (now (a′ .1 .1 .1 .0)) →
-    length (now (a .1 .1 .1 .1 .0)) ≡ length (now (a′ .1 .1 .1 .1 .0)) →
-    SameSolve 2 (solveAnswered (solveOutcome x) (v .1 .1 .1 .1 .0)) (solveAnswered (solveOutcome x′) (v′ .1 .1 .1 .1 .0))
-solve-never-steered κs κs′ a a′ x x′ v v′ p p′ n alike o b f =
-    carried (SameSolve 2) p (p′ ∙ (λ i. solveLeft dualAlgebra dualLayout (sym n i) (now (a′ .1 .0)) (sym o i) (now (a′ .1 .1 .1 .0)) (now (a′ .1 .1 .1 .1 .0))))
-    (solve-same dualAlgebra dualLayout dual-lawful dual-agrees dual-reals (a .0) _ _ _ _ _ _ _ (alike .long) (alike .real) (b .long) (b .real) f)
+pub inverse-never-steered : InverseNeverSteered inverse-k.r (λ κs x. solveOutcome x) 2 inverse-r.Post
+inverse-never-steered = inverse-never-steered-by inverse-k.r (λ κs x. solveOutcome x) dual-laws
 
--- inverse(n, factors, order, out)
-pub inverse-never-steered :
-    (κs κs′ : Lfts 3) (a : Dens κs inverse-k.ps) (a′ : Dens κs′ inverse-k.ps) (x x′ : SolveAnswer)
-    (v : Lasts (endedOf 3 inverse-k.ps inverse-k.r) κs a) (v′ : Lasts (endedOf 3 inverse-k.ps inverse-k.r) κs′ a′) →
-    inverse-r.Post κs a x (atExit (endedOf 3 inverse-k.ps inverse-k.r) κs a v) →
-    inverse-r.Post κs′ a′ x′ (atExit (endedOf 3 inverse-k.ps inverse-k.r) κs′ a′ v′) →
-    a .0 ≡ a′ .0 → Alike 2 (now (a .1 .0)) (now (a′ .1 .0)) → now (a .1 .1 .0) ≡ now (a′ .1 .1 .0) → length (now (a .1 .1 .1 .0)) ≡ length (now (a′ .1 .1 .1 .0)) →
-    SameSolve 2 (solveAnswered (solveOutcome x) (v .1 .1 .1 .0)) (solveAnswered (solveOutcome x′) (v′ .1 .1 .1 .0))
-inverse-never-steered κs κs′ a a′ x x′ v v′ p p′ n alike o f =
-    carried (SameSolve 2) p (p′ ∙ (λ i. inverseLeft dualAlgebra dualLayout (sym n i) (now (a′ .1 .0)) (sym o i) (now (a′ .1 .1 .1 .0))))
-    (inverse-same dualAlgebra dualLayout dual-lawful dual-agrees dual-reals (a .0) _ _ _ _ _ (alike .long) (alike .real) f)
-
--- determinant(n, factors, order, swaps)
-pub determinant-never-steered :
-    (κs κs′ : Lfts 2) (a : Dens κs determinant-k.ps) (a′ : Dens κs′ determinant-k.ps) (x x′ : DualAnswer)
-    (v : Lasts (endedOf 2 determinant-k.ps determinant-k.r) κs a) (v′ : Lasts (endedOf 2 determinant-k.ps determinant-k.r) κs′ a′) →
-    determinant-r.Post κs a x (atExit (endedOf 2 determinant-k.ps determinant-k.r) κs a v) →
-    determinant-r.Post κs′ a′ x′ (atExit (endedOf 2 determinant-k.ps determinant-k.r) κs′ a′ v′) →
-    a .0 ≡ a′ .0 → Alike 2 (now (a .1 .0)) (now (a′ .1 .0)) → now (a .1 .1 .0) ≡ now (a′ .1 .1 .0) → a .1 .1 .1 .0 ≡ a′ .1 .1 .1 .0 →
-    mapOutcome (dualAlgebra .re) (outcome x) ≡ mapOutcome (dualAlgebra .re) (outcome x′)
-determinant-never-steered κs κs′ a a′ x x′ v v′ p p′ n alike o s =
-    ap (mapOutcome (dualAlgebra .re)) p
-    ∙ determinant-same dualAlgebra dualLayout dual-lawful dual-agrees dual-reals (a .0) _ _ _ _ (alike .long) (alike .real)
-    ∙ sym (ap (mapOutcome (dualAlgebra .re)) (p′ ∙ (λ i. determinantLeft dualAlgebra dualLayout (sym n i) (now (a′ .1 .0)) (sym o i) (sym s i))))
+pub determinant-never-steered : DeterminantNeverSteered dualAlgebra determinant-k.r (λ κs x. outcome x) 2 determinant-r.Post
+determinant-never-steered = determinant-never-steered-by dual-laws determinant-k.r (λ κs x. outcome x)

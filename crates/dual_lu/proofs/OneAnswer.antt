@@ -1,17 +1,10 @@
 -- No second outcome meets the promise of an entry: one answer, and one content of each lent buffer. Assumes nothing.
-use mathlib.Core.Path.{_≡_, refl, ap, sym, _∙_}
-use borrow.Fn.Kinds.{endedOf}
-use denote.Triple.Clauses.{atExit}
-use Rattle.dual.specs.declared.DualAnswer.{DualAnswer}
-use Rattle.dual.specs.declared.DualAnswer.the-variants as dual
-use Rattle.dual.specs.Rules.{outcome}
-use Rattle.matrices.specs.Entries.{LuLeft, SolveLeft}
-use Rattle.dual_lu.specs.Answers.{luOutcome, luColumn, solveOutcome}
-use Rattle.dual_lu.specs.declared.LuAnswer.{LuAnswer}
-use Rattle.dual_lu.specs.declared.LuAnswer.the-variants as lu
-use Rattle.dual_lu.specs.declared.SolveAnswer.{SolveAnswer}
-use Rattle.dual_lu.specs.declared.SolveAnswer.the-variants as solve
 use Rattle.real.proofs.Only.{Only}
+use Rattle.dual.specs.Rules.{outcome}
+use Rattle.dual.proofs.OneAnswer.{outcome-one}
+use Rattle.matrices.specs.Answers.{luOutcome, luColumn, solveOutcome}
+use Rattle.matrices.proofs.Calls.{lu-one, solve-one, lu-only-by, solve-only-by, inverse-only-by, determinant-only-by}
+use Rattle.dual_cells.proofs.Cells.{dual-laws}
 use Rattle.dual_lu.proofs.lu.Kinds as lu-k
 use Rattle.dual_lu.proofs.lu.Reads as lu-r
 use Rattle.dual_lu.proofs.solve.Kinds as solve-k
@@ -21,45 +14,14 @@ use Rattle.dual_lu.proofs.determinant.Reads as determinant-r
 use Rattle.dual_lu.proofs.inverse.Kinds as inverse-k
 use Rattle.dual_lu.proofs.inverse.Reads as inverse-r
 
--- document 01's reading tells the answers apart
-lu-one : (x y : LuAnswer) → luOutcome x ≡ luOutcome y → luColumn x ≡ luColumn y → x ≡ y
-lu-one (lu.Done s) (lu.Done t) e f = cc
-lu-one (lu.Done s) (lu.Refused k c) e f = cc
-lu-one (lu.Refused k c) (lu.Done t) e f = cc
-lu-one (lu.Refused k c) (lu.Refused j d) e f = cc
-
-solve-one : (x y : SolveAnswer) → solveOutcome x ≡ solveOutcome y → x ≡ y
-solve-one solve.Done solve.Done e = refl
-solve-one solve.Done (solve.Refused k) e = cc
-solve-one (solve.Refused k) solve.Done e = cc
-solve-one (solve.Refused k) (solve.Refused j) e = cc
-
-dual-one : (x y : DualAnswer) → outcome x ≡ outcome y → x ≡ y
-dual-one (dual.Value s) (dual.Value t) e = cc
-dual-one (dual.Value s) (dual.Refused k) e = cc
-dual-one (dual.Refused k) (dual.Value t) e = cc
-dual-one (dual.Refused k) (dual.Refused j) e = cc
-
 pub lu-only : Only 3 lu-k.ps lu-k.r lu-r.Pre lu-r.Post
-lu-only κs a x y v w h p q =
-    let e = p ∙ sym q in (
-      lu-one x y (ap (λ (l : LuLeft). l .answer) e) (ap (λ (l : LuLeft). l .column) e),
-      λ i. atExit (endedOf 3 lu-k.ps lu-k.r) κs a (v .0, (v .1 .0, (ap (λ (l : LuLeft). l .factors) e i, (ap (λ (l : LuLeft). l .order) e i, tt)))),
-    )
+lu-only = lu-only-by lu-k.r (λ κs x. luOutcome x) (λ κs x. luColumn x) dual-laws (λ κs. lu-one) lu-r.Pre
 
 pub solve-only : Only 4 solve-k.ps solve-k.r solve-r.Pre solve-r.Post
-solve-only κs a x y v w h p q =
-    let e = p ∙ sym q in (
-      solve-one x y (ap (λ (l : SolveLeft). l .answer) e),
-      λ i. atExit (endedOf 4 solve-k.ps solve-k.r) κs a (v .0, (v .1 .0, (v .1 .1 .0, (v .1 .1 .1 .0, (ap (λ (l : SolveLeft). l .result) e i, tt))))),
-    )
-
-pub determinant-only : Only 2 determinant-k.ps determinant-k.r determinant-r.Pre determinant-r.Post
-determinant-only κs a x y v w h p q = (dual-one x y (p ∙ sym q), refl)
+solve-only = solve-only-by solve-k.r (λ κs x. solveOutcome x) dual-laws (λ κs. solve-one) solve-r.Pre
 
 pub inverse-only : Only 3 inverse-k.ps inverse-k.r inverse-r.Pre inverse-r.Post
-inverse-only κs a x y v w h p q =
-    let e = p ∙ sym q in (
-      solve-one x y (ap (λ (l : SolveLeft). l .answer) e),
-      λ i. atExit (endedOf 3 inverse-k.ps inverse-k.r) κs a (v .0, (v .1 .0, (v .1 .1 .0, (ap (λ (l : SolveLeft). l .result) e i, tt)))),
-    )
+inverse-only = inverse-only-by inverse-k.r (λ κs x. solveOutcome x) dual-laws (λ κs. solve-one) inverse-r.Pre
+
+pub determinant-only : Only 2 determinant-k.ps determinant-k.r determinant-r.Pre determinant-r.Post
+determinant-only = determinant-only-by dual-laws determinant-k.r (λ κs x. outcome x) (λ κs. outcome-one) determinant-r.Pre

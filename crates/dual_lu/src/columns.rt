@@ -8,7 +8,7 @@ ghost use Rattle.algebra.specs.Algebra.{zeroOf};
 ghost use Rattle.algebra.specs.Flat.{decode};
 ghost use Rattle.algebra.specs.Loop.{upto};
 ghost use Rattle.dual.specs.Rules.{dualAlgebra, dualLayout};
-ghost use Rattle.matrices.specs.Matrix.{Square, cell};
+ghost use Rattle.matrices.specs.Matrix.{Square, Row, cell};
 ghost use Rattle.matrices.specs.Lu.{going, subtract, reduceRow, reduce, column, numbers, luOf};
 ghost use Rattle.matrices.specs.Steps.{runAfter, swapsOf};
 ghost use Rattle.matrices.specs.Determinant.{diagonal, determinantOf};
@@ -25,9 +25,8 @@ fn subtract_record(a: &mut [f64], to: usize, from: usize, x: Dual)
 
 // The rest of row j, whose multiplier is x.
 fn subtract_row(n: usize, a: &mut [f64], i: usize, j: usize, x: Dual)
-    requires { ⌜ Square 2 n (now a) ⌝ }
-    requires { ⌜ i < n ⌝ }
-    requires { ⌜ j < n ⌝ }
+    requires { ⌜ Row 2 n i (now a) ⌝ }
+    requires { ⌜ Row 2 n j (now a) ⌝ }
     requires { ⌜ cell dualAlgebra n (decode dualLayout (now a)) j i ≡ x ⌝ }
     ensures { λ _. ⌜ decode dualLayout (now (a .exit)) ≡ upto (i + 1) n (subtract dualAlgebra n i j) (decode dualLayout (now (a .entry))) ⌝ }
 {
@@ -40,9 +39,8 @@ fn subtract_row(n: usize, a: &mut [f64], i: usize, j: usize, x: Dual)
 
 // The multiplier of row j, then the rest of the row.
 fn reduce_row(n: usize, a: &mut [f64], i: usize, j: usize)
-    requires { ⌜ Square 2 n (now a) ⌝ }
-    requires { ⌜ i < n ⌝ }
-    requires { ⌜ j < n ⌝ }
+    requires { ⌜ Row 2 n i (now a) ⌝ }
+    requires { ⌜ Row 2 n j (now a) ⌝ }
     ensures { λ _. ⌜ decode dualLayout (now (a .exit)) ≡ reduceRow dualAlgebra n i j (decode dualLayout (now (a .entry))) ⌝ }
 {
     let at = j * n + i;

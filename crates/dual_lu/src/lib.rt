@@ -5,6 +5,8 @@ mod substitution;
 
 use dual::Dual;
 use dual::DualAnswer;
+pub use matrices::LuAnswer;
+pub use matrices::SolveAnswer;
 use matrices::Step;
 ghost use mathlib.Core.Path.{_≡_};
 ghost use lib.ListN.{length};
@@ -13,19 +15,7 @@ ghost use Rattle.dual.specs.Rules.{dualAlgebra, dualLayout, outcome};
 ghost use Rattle.matrices.specs.Matrix.{Square};
 ghost use Rattle.matrices.specs.Lu.{luOf};
 ghost use Rattle.matrices.specs.Entries.{luAnswered, solveAnswered, luFinish, luLeft, solveLeft, inverseLeft, determinantLeft};
-ghost use Rattle.dual_lu.specs.Answers.{luOutcome, luColumn, solveOutcome};
-
-// What `lu` answers: the number of swaps, or a refusal by its number with the column beside it (0 unless the number is 6).
-pub enum LuAnswer {
-    Done { swaps: usize },
-    Refused { number: u32, column: usize },
-}
-
-// What `solve` and `inverse` answer.
-pub enum SolveAnswer {
-    Done,
-    Refused { number: u32 },
-}
+ghost use Rattle.matrices.specs.Answers.{luOutcome, luColumn, solveOutcome};
 
 // LU once the size and the lengths are right.
 fn factor(n: usize, a: &[f64], factors: &mut [f64], order: &mut [usize]) -> LuAnswer

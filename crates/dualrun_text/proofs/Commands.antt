@@ -13,9 +13,9 @@ use Rattle.real.specs.Operations as float
 use Rattle.algebra.specs.Outcome.{numberOf}
 use Rattle.dual.specs.Rules.{dualAlgebra, dualLayout}
 use Rattle.matrices.specs.Entries.{LuLeft, luLeft}
-use Rattle.dual_lu.specs.Answers.{luOutcome, luColumn}
-use Rattle.dual_lu.specs.declared.LuAnswer.{LuAnswer}
-use Rattle.dual_lu.specs.declared.LuAnswer.the-variants as lu
+use Rattle.matrices.specs.Answers.{luOutcome, luColumn}
+use Rattle.matrices.specs.declared.LuAnswer.{LuAnswer}
+use Rattle.matrices.specs.declared.LuAnswer.the-variants as lu
 use Rattle.jacobi.specs.Entry.{JacobiLeft, jacobiLeft}
 use Rattle.jacobi.specs.Answer.{outcome}
 use Rattle.jacobi.specs.declared.JacobiAnswer.{JacobiAnswer}

@@ -6,7 +6,7 @@ ghost use mathlib.Core.Path.{_≡_};
 ghost use Prim.Native.Nat.{_*_, _<_, _≤_};
 ghost use lib.ListN.{length};
 ghost use Rattle.algebra.specs.Outcome.{numberOf};
-ghost use Rattle.dual_lu.specs.Answers.{luOutcome, luColumn};
+ghost use Rattle.matrices.specs.Answers.{luOutcome, luColumn};
 ghost use Rattle.dualrun_text.specs.Page.{page, written};
 ghost use Rattle.dualrun_text.specs.Lines.{pairLine};
 ghost use Rattle.dualrun_text.specs.Output.{luLines, luOfLines, luOutput};

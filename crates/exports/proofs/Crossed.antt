@@ -6,9 +6,9 @@ use mathlib.Core.List.{List}
 use lib.Dec.{eqb}
 use lib.Ieee.{Float}
 use Rattle.matrices.specs.Entries.{LuLeft, luAnswered}
-use Rattle.dual_lu.specs.Answers.{luOutcome, luColumn}
-use Rattle.dual_lu.specs.declared.LuAnswer.{LuAnswer}
-use Rattle.dual_lu.specs.declared.LuAnswer.the-variants.{Refused}
+use Rattle.matrices.specs.Answers.{luOutcome, luColumn}
+use Rattle.matrices.specs.declared.LuAnswer.{LuAnswer}
+use Rattle.matrices.specs.declared.LuAnswer.the-variants.{Refused}
 use Rattle.exports.specs.Numbered.{luNumbered}
 
 -- the answer is k, and the entry left l: what crosses is l's

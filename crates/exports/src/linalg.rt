@@ -8,7 +8,7 @@ ghost use Rattle.dual.specs.Rules.{dualAlgebra, dualLayout};
 ghost use Rattle.matrices.specs.Entries.{luLeft, solveLeft, inverseLeft, determinantLeft};
 ghost use Rattle.jacobi.specs.Entry.{jacobiLeft};
 ghost use Rattle.algebra.specs.Outcome.{numberOf};
-ghost use Rattle.dual_lu.specs.Answers.{solveOutcome};
+ghost use Rattle.matrices.specs.Answers.{solveOutcome};
 ghost use Rattle.exports.specs.Numbered.{luNumbered, solveNumbered, determinantNumbered, jacobiNumbered};
 
 // The number of an answer of solve or inverse.

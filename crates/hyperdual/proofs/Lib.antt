@@ -4,5 +4,5 @@ pub mod RealParts
 -- records in flat floats
 pub mod Flat
 -- this crate's promises leave one answer each, and values of the source's examples
-mod OneAnswer
+pub mod OneAnswer
 mod Values

@@ -82,7 +82,7 @@ use Rattle.hyperdual.proofs.operations.product.Kinds as product-k
 use Rattle.hyperdual.proofs.operations.product.Reads as product
 
 -- two answers of one outcome are one
-outcome-one : (x y : HyperDualAnswer) → outcome x ≡ outcome y → x ≡ y
+pub outcome-one : (x y : HyperDualAnswer) → outcome x ≡ outcome y → x ≡ y
 outcome-one (Value x) (Value y) e = cc
 outcome-one (Value x) (Refused n) e = cc
 outcome-one (Refused n) (Value x) e = cc

@@ -1,6 +1,6 @@
 -- Laws of matrices over any record; those that the crates of the entries cite are public.
 -- lists: what a filling loop has passed, what is left of a list
-pub mod Fill
+mod Fill
 mod Rest
 pub mod Odd
 -- places of a square matrix in flat floats
@@ -19,3 +19,8 @@ pub mod RowsOfRecords
 pub mod Inner
 pub mod Starts
 pub mod Answers
+-- what they ask of a record, and the code over it function by function
+pub mod Laws
+pub mod Turns
+-- the entries by what their contracts say
+pub mod Calls

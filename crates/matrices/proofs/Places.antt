@@ -10,7 +10,7 @@ use Rattle.real.specs.Operations as float
 use Rattle.algebra.specs.Algebra.{reals}
 use Rattle.algebra.specs.Flat.{realParts}
 use Rattle.algebra.proofs.Flat.{tabulate-at}
-use Rattle.matrices.specs.Matrix.{Square, cell}
+use Rattle.matrices.specs.Matrix.{Square, Row, cell}
 use Rattle.matrices.specs.Solve.{Strided}
 
 -- row r and column c are one of the n * n places
@@ -39,6 +39,13 @@ inside w n r c l s hr hc =
     let z = s .small in
     let h : r ≤ 32 = omega arith in
     record { row = mul-le-mul h z; there = omega (arith, flat-place w (n * n) (r * n + c) (place n r c hr hc), s .full) }
+
+-- a row of a square matrix
+pub row-of : (w n i : ℕ) (l : List Float) → Square w n l → i < n → Row w n i l
+row-of w n i l s h =
+    let z = s .small in
+    let b : i ≤ 32 = omega arith in
+    record { small = z; below = h; start = mul-le-mul b z; whole = omega (arith, mul-le-mul-right w (row-place n i h), s .full) }
 
 -- row r lies whole in the floats
 pub row-inside : (w n : ℕ) (l : List Float) (r : ℕ) → Square w n l → r < n → r * (n * w) + n * w ≤ length l

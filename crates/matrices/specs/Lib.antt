@@ -8,3 +8,4 @@ pub mod Inverse
 pub mod Order
 pub mod Entries
 pub mod SameReals
+pub mod Answers

@@ -14,6 +14,13 @@ pub record Square (w n : ℕ) (l : List Float) : Type 0 where
   pub narrow : w ≤ 8
   pub full : length l ≡ n * n * w
 
+-- one of its rows: row i, whole in the floats
+pub record Row (w n i : ℕ) (l : List Float) : Type 0 where
+  pub small : n ≤ 32
+  pub below : i < n
+  pub start : i * n ≤ 1024
+  pub whole : (i * n + n) * w ≤ length l
+
 -- the elements at p and q exchanged (d stands for what is not there)
 unfoldable pub exchange : {B : Type 0} → B → ℕ → ℕ → List B → List B
 exchange d p q l = set (set l p (getD l q d)) q (getD l p d)

@@ -16,3 +16,15 @@ pub enum Step {
     Singular { column: usize },
     Going { swaps: usize },
 }
+
+// What LU answers: the number of swaps, or a refusal by its number with the column beside it (0 unless the number is 6).
+pub enum LuAnswer {
+    Done { swaps: usize },
+    Refused { number: u32, column: usize },
+}
+
+// What solve and inverse answer.
+pub enum SolveAnswer {
+    Done,
+    Refused { number: u32 },
+}

@@ -1,4 +1,4 @@
-// The cases of lu.txt, solve.txt, determinant.txt, inverse.txt and jacobi.txt (oracle/README.md): sizes, records of two words, orders.
+// The cases of the matrices' files (oracle/README.md): sizes, floats, orders, factors.
 use super::Place;
 ghost use Prim.Native.Nat.{_*_, _≤_};
 ghost use mathlib.Core.Path.{_≡_};
@@ -36,7 +36,7 @@ pub fn read_size(file: i32, buffer: &mut [u8; 4096], place: Place) -> Size
     }
 }
 
-// How many floats a matrix of n by n records has.
+// How many floats a matrix of n by n records of two has.
 pub fn floats_of(n: usize) -> usize
     requires { ⌜ n ≤ 32 ⌝ }
     ensures { λ r. ⌜ r ≤ 2048 ⌝ }
@@ -142,4 +142,39 @@ pub fn same_words(left: &[f64], right: &[f64]) -> bool {
         i += 1;
     }
     same
+}
+
+// The buffers after LU: the file's order and factors, or zeros where the file has a refusal.
+pub fn same_factors(
+    file: i32,
+    buffer: &mut [u8; 4096],
+    place: Place,
+    number: u64,
+    factors: &[f64],
+    order: &[usize],
+) -> Compared {
+    if number != 0 {
+        let same = zero_floats(factors) && zero_order(order);
+        return Compared { place, same };
+    }
+    let orders = same_order(file, buffer, place, order);
+    let place = orders.place;
+    let floats = same_floats(file, buffer, place, factors);
+    let place = floats.place;
+    Compared {
+        place,
+        same: orders.same && floats.same,
+    }
+}
+
+// The order and the factors that solve, determinant and inverse are handed.
+pub fn read_factors(
+    file: i32,
+    buffer: &mut [u8; 4096],
+    place: Place,
+    factors: &mut [f64],
+    order: &mut [usize],
+) -> Place {
+    let place = read_order(file, buffer, place, order);
+    read_floats(file, buffer, place, factors)
 }

@@ -26,29 +26,6 @@ fn numbers_of(answer: LuAnswer) -> Answered {
     }
 }
 
-// The buffers after LU: the file's order and factors, or zeros where the file has a refusal.
-fn same_factors(
-    file: i32,
-    buffer: &mut [u8; 4096],
-    place: Place,
-    number: u64,
-    factors: &[f64],
-    order: &[usize],
-) -> Compared {
-    if number != 0 {
-        let same = matrices::zero_floats(factors) && matrices::zero_order(order);
-        return Compared { place, same };
-    }
-    let orders = matrices::same_order(file, buffer, place, order);
-    let place = orders.place;
-    let floats = matrices::same_floats(file, buffer, place, factors);
-    let place = floats.place;
-    Compared {
-        place,
-        same: orders.same && floats.same,
-    }
-}
-
 pub(crate) fn lu(
     file: i32,
     buffer: &mut [u8; 4096],
@@ -65,24 +42,12 @@ pub(crate) fn lu(
     let place = matrices::read_floats(file, buffer, place, a);
     let got = numbers_of(dual_lu::lu(n, a, factors, order));
     let agree = got.number == number.word && got.beside == beside.word;
-    let rest = same_factors(file, buffer, place, number.word, factors, order);
+    let rest = matrices::same_factors(file, buffer, place, number.word, factors, order);
     let place = rest.place;
     Compared {
         place,
         same: agree && rest.same,
     }
-}
-
-// The order and the factors that the other three are handed.
-fn read_factors(
-    file: i32,
-    buffer: &mut [u8; 4096],
-    place: Place,
-    factors: &mut [f64],
-    order: &mut [usize],
-) -> Place {
-    let place = matrices::read_order(file, buffer, place, order);
-    matrices::read_floats(file, buffer, place, factors)
 }
 
 pub(crate) fn solve(
@@ -95,7 +60,7 @@ pub(crate) fn solve(
     b: &mut [f64],
     x: &mut [f64],
 ) -> Compared {
-    let place = read_factors(file, buffer, place, factors, order);
+    let place = matrices::read_factors(file, buffer, place, factors, order);
     let place = matrices::read_floats(file, buffer, place, b);
     let answer = dual_lu::solve(n, factors, order, b, x);
     match answer {
@@ -114,7 +79,7 @@ pub(crate) fn determinant(
 ) -> Compared {
     let swaps = replay::next_word(file, buffer, place);
     let place = swaps.place;
-    let place = read_factors(file, buffer, place, factors, order);
+    let place = matrices::read_factors(file, buffer, place, factors, order);
     let answer = dual_lu::determinant(n, factors, order, swaps.word as usize);
     match answer {
         DualAnswer::Value(x) => matrices::same_floats(file, buffer, place, &[x.re, x.eps]),
@@ -131,7 +96,7 @@ pub(crate) fn inverse(
     order: &mut [usize],
     out: &mut [f64],
 ) -> Compared {
-    let place = read_factors(file, buffer, place, factors, order);
+    let place = matrices::read_factors(file, buffer, place, factors, order);
     let answer = dual_lu::inverse(n, factors, order, out);
     match answer {
         SolveAnswer::Done => matrices::same_floats(file, buffer, place, out),

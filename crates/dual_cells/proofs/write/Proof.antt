@@ -3,31 +3,15 @@ use Rattle.dual_cells.proofs.Cells.{write-record}
 use Rattle.dual_cells.proofs.write.Statement.{statement}
 use Rattle.dual_cells.proofs.write.Tie as tie
 
-mul-at : tie.Need-mul-at
-mul-at c = search needs
-
-mul-a : tie.Need-mul-a
-mul-a c = search needs
-
-slice-write-a : tie.Need-slice-write-a
-slice-write-a c = search needs
-
-add-a : tie.Need-add-a
-add-a c = search needs
-
-mul-a-2 : tie.Need-mul-a-2
-mul-a-2 c = search needs
-
-slice-write-a-2 : tie.Need-slice-write-a-2
-slice-write-a-2 c = search needs
-
-same-length : tie.Need-same-length
-same-length c = search needs
-
-returns : tie.Need-returns
-returns c = write-record _ _ _ (search needs)
-
 pub write-spec : {M : Type 1} → statement M
 write-spec =
     tie.close
-    (tie.spec mul-at mul-a slice-write-a add-a mul-a-2 slice-write-a-2 same-length returns)
+    (tie.spec
+    (λ c. search needs)
+    (λ c. search needs)
+    (λ c. search needs)
+    (λ c. search needs)
+    (λ c. search needs)
+    (λ c. search needs)
+    (λ c. search needs)
+    (λ c. write-record _ _ _ (search needs)))

@@ -1,95 +1,28 @@
-use mathlib.Core.Path.{_≡_, sym, ap, _∙_}
-use Prim.Native.Nat.{ℕ, _*_}
-use denote.Ref.{now}
-use lib.ListN.{length, replicate}
-use mathlib.Core.List.{List}
-use lib.Ieee.{Float}
 use borrow.Author.Needs.{needs}
-use native.Mathlib.Omega.{arith}
-use Rattle.algebra.specs.Flat.{decode}
-use Rattle.dual.specs.Rules.{dualAlgebra, dualLayout}
-use Rattle.matrices.specs.Lu.{numbers, luOf}
-use Rattle.matrices.specs.Steps.{runAfter}
-use Rattle.matrices.specs.declared.Step.{Step}
-use Rattle.matrices.proofs.Answers.{finish-done, finish-singular}
-use Rattle.dual.proofs.Flat.{dual-lawful}
-use Rattle.real.specs.Operations.{zero}
+use mathlib.Core.Path.{ap, _∙_}
+use Rattle.matrices.specs.Lu.{numbers}
+use Rattle.matrices.proofs.Turns.{factor-done, factor-singular}
+use Rattle.dual_cells.proofs.Cells.{dual-laws}
 use Rattle.dual_lu.proofs.factor.Statement.{statement}
 use Rattle.dual_lu.proofs.factor.Tie as tie
 
--- the run is LU of the matrix lent
-ran : (c : tie.After-run-columns) → let s = c .before .before .before .before .before .before .before .before .before .before .before .before .before .before .args in
-    luOf dualAlgebra (s .n) (decode dualLayout (now (s .a))) ≡ runAfter (c .run-columns .result) (decode dualLayout (c .run-columns .last .1 .0)) (c .run-columns .last .1 .1 .0)
-ran c = ap (λ (l : List Float). luOf dualAlgebra (c .before .before .before .before .before .before .before .before .before .before .before .before .before .before .args .n) (decode dualLayout l)) (sym (c .before .before .before .before .before .before .before .before .before .copy .ensures)) ∙ c .run-columns .ensures
-
-copy-requires : tie.Need-copy-requires
-copy-requires c κs = search needs
-
-number-requires : tie.Need-number-requires
-number-requires c κs = search needs
-
 run-columns-requires : tie.Need-run-columns-requires
 run-columns-requires c κs = (search needs, c .before .before .before .before .number .ensures ∙ ap numbers (c .before .before .before .before .before .before .before .before .before .before .before .before .before .pre .1 .1))
-
-enum-known-s : tie.Need-enum-known-s
-enum-known-s c = search needs
-
-clear-requires : tie.Need-clear-requires
-clear-requires c κs = search needs
-
-clear-requires-2 : tie.Need-clear-requires-2
-clear-requires-2 c κs = search needs
-
-enum-known-s-2 : tie.Need-enum-known-s-2
-enum-known-s-2 c = search needs
-
-same-length : tie.Need-same-length
-same-length c = search needs
-
-same-length-2 : tie.Need-same-length-2
-same-length-2 c = search needs
-
-returns : tie.Need-returns
-returns c =
-    let step = c .before .before .before .before .before .before .before .before .before .before .before .before .before .before .before .run-columns in
-    let n = c .before .before .before .before .before .before .before .before .before .before .before .before .before .before .before .before .before .before .before .before .before .before .before .before .before .before .before .before .before .args .n in
-    let full : length (step .last .1 .0) ≡ n * n * 2 = omega arith in
-    let size : length (step .last .1 .1 .0) ≡ n = omega arith in
-    let told = c .before .before .before .before .before .before .before .before .before .s .given in
-    finish-singular dualAlgebra dualLayout dual-lawful n _ (c .before .before .before .before .before .before .clear .last .0) (c .before .before .clear2 .last .0) (told .0 .0)
-    (ran (c .before .before .before .before .before .before .before .before .before .before .before .before .before .before .before) ∙ ap (λ (r : Step). runAfter r (decode dualLayout (step .last .1 .0)) (step .last .1 .1 .0)) (told .1))
-    (c .before .before .before .before .before .before .clear .ensures ∙ ap (λ (k : ℕ). replicate k zero) full)
-    (c .before .before .clear2 .ensures ∙ ap (λ (k : ℕ). replicate k 0) size)
-
-same-length-3 : tie.Need-same-length-3
-same-length-3 c = search needs
-
-same-length-4 : tie.Need-same-length-4
-same-length-4 c = search needs
-
-returns-2 : tie.Need-returns-2
-returns-2 c =
-    let step = c .before .before .before .before .before .before .before .run-columns in
-    let n = c .before .before .before .before .before .before .before .before .before .before .before .before .before .before .before .before .before .before .before .before .before .args .n in
-    let full : length (step .last .1 .0) ≡ n * n * 2 = omega arith in
-    let told = c .before .s2 .given in
-    finish-done dualAlgebra dualLayout dual-lawful n _ (step .last .1 .0) (step .last .1 .1 .0) (told .0 .0)
-    (ran (c .before .before .before .before .before .before .before) ∙ ap (λ (r : Step). runAfter r (decode dualLayout (step .last .1 .0)) (step .last .1 .1 .0)) (told .1)) full
 
 pub factor-spec : {M : Type 1} → statement M
 factor-spec =
     tie.close
     (tie.spec
-    copy-requires
-    number-requires
+    (λ c κs. search needs)
+    (λ c κs. search needs)
     run-columns-requires
-    enum-known-s
-    clear-requires
-    clear-requires-2
-    enum-known-s-2
-    same-length
-    same-length-2
-    returns
-    same-length-3
-    same-length-4
-    returns-2)
+    (λ c. search needs)
+    (λ c κs. search needs)
+    (λ c κs. search needs)
+    (λ c. search needs)
+    (λ c. search needs)
+    (λ c. search needs)
+    (λ c. search (needs, factor-singular dual-laws))
+    (λ c. search needs)
+    (λ c. search needs)
+    (λ c. search (needs, factor-done dual-laws)))

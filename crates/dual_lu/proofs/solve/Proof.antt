@@ -1,41 +1,18 @@
-use mathlib.Core.Path.{_≡_, sym, ap, _∙_}
-use Prim.Native.Nat.{_*_}
-use denote.Ref.{now}
-use lib.ListN.{length}
 use borrow.Author.Needs.{needs}
-use native.Mathlib.Omega.{arith}
+use denote.Ref.{now}
 use Rattle.dual.specs.Rules.{dualAlgebra, dualLayout}
-use Rattle.matrices.proofs.Answers.{LentFits, solve-fits, solve-done, solve-refused}
-use Rattle.algebra.specs.Outcome.{value}
-use Rattle.matrices.specs.Entries.{solveAnswered}
-use Rattle.dual_lu.proofs.Held.{parts-of}
+use Rattle.matrices.proofs.Answers.{solve-refused}
+use Rattle.matrices.proofs.Turns.{solve-allowed, solve-answers}
+use Rattle.dual_cells.proofs.Cells.{dual-laws}
 use Rattle.dual_lu.proofs.solve.Statement.{statement}
 use Rattle.dual_lu.proofs.solve.Tie as tie
 
--- what the number 0 tells
-fits : (c : tie.Else1) → let s = c .before .before .before .before .before .before .args in LentFits 2 (s .n) (length (now (s .factors))) (now (s .order)) × ((length (now (s .b)) ≡ s .n * 2) × (length (now (s .x)) ≡ s .n * 2))
-fits c = solve-fits 2 _ _ _ _ _ (sym (c .before .solve .ensures) ∙ c .if1 .left)
-
-solve-requires : tie.Need-solve-requires
-solve-requires c κs = search needs
-
-returns : tie.Need-returns
-returns c = solve-refused dualAlgebra dualLayout _ _ _ _ _ _ (c .before .solve .ensures) (c .if1 .taken)
-
-solve-run-requires : tie.Need-solve-run-requires
-solve-run-requires c κs =
-    let f = fits (c .before) in
-    (record { small = f .0 .small; some = search needs; narrow = search needs; full = f .0 .factors }, (f .0 .order, (f .1 .0, f .1 .1)))
-
-same-length : tie.Need-same-length
-same-length c = search needs
-
-returns-2 : tie.Need-returns-2
-returns-2 c =
-    let f = fits (c .before .before .before .before) in
-    let kept : length (c .before .before .solve-run .last .1 .1 .1 .1 .0) ≡ c .before .before .before .before .before .before .before .before .before .before .args .n * 2 = omega arith in
-    ap (solveAnswered (value tt)) (parts-of _ _ _ kept (c .before .before .solve-run .ensures))
-    ∙ solve-done dualAlgebra dualLayout _ _ _ _ _ (sym (c .before .before .before .before .before .solve .ensures) ∙ c .before .before .before .before .if1 .left)
-
 pub solve-spec : {M : Type 1} → statement M
-solve-spec = tie.close (tie.spec solve-requires returns solve-run-requires same-length returns-2)
+solve-spec =
+    tie.close
+    (tie.spec
+    (λ c κs. search needs)
+    (λ c. search (needs, solve-refused dualAlgebra dualLayout))
+    (λ c κs. let s = c .before .before .before .before .before .before .before .args in solve-allowed dual-laws _ _ _ (now (s .b)) (now (s .x)) _ (c .before .before .solve .ensures) (c .before .if1 .left))
+    (λ c. search needs)
+    (λ c. search (needs, solve-answers dual-laws)))

@@ -1,25 +1,14 @@
-use mathlib.Core.Path.{sym, ap, _∙_}
-use borrow.Author.Tests.{eq-eqb, ne-eqb}
 use borrow.Author.Needs.{needs}
-use Rattle.dual.specs.Rules.{dualAlgebra}
-use Rattle.matrices.specs.Determinant.{determinantOf}
-use Rattle.matrices.proofs.Odd.{odd-mod}
+use Rattle.matrices.proofs.Turns.{determinant-odd, determinant-even}
+use Rattle.dual_cells.proofs.Cells.{dual-laws}
 use Rattle.dual_lu.proofs.columns.determinant_of.Statement.{statement}
 use Rattle.dual_lu.proofs.columns.determinant_of.Tie as tie
 
-diagonal-product-requires : tie.Need-diagonal-product-requires
-diagonal-product-requires c κs = search needs
-
-neg-requires : tie.Need-neg-requires
-neg-requires c κs = search needs
-
-returns : tie.Need-returns
-unfolding determinantOf
-returns c = rw (sym (odd-mod (c .before .before .before .before .args .swaps)) ∙ eq-eqb _ _ (c .before .if1 .taken)) (c .neg .ensures ∙ ap (dualAlgebra .neg) (c .before .before .diagonal-product .ensures))
-
-returns-2 : tie.Need-returns-2
-unfolding determinantOf
-returns-2 c = rw (sym (odd-mod (c .before .before .before .args .swaps)) ∙ ne-eqb _ _ (c .if1 .left)) (c .before .diagonal-product .ensures)
-
 pub determinant-of-spec : {M : Type 1} → statement M
-determinant-of-spec = tie.close (tie.spec diagonal-product-requires neg-requires returns returns-2)
+determinant-of-spec =
+    tie.close
+    (tie.spec
+    (λ c κs. search needs)
+    (λ c κs. search needs)
+    (λ c. search (needs, determinant-odd dual-laws))
+    (λ c. search (needs, determinant-even dual-laws)))

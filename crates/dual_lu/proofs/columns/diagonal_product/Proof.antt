@@ -6,49 +6,25 @@ use Rattle.algebra.specs.Flat.{decode}
 use Rattle.algebra.specs.Loop.{upto}
 use Rattle.algebra.proofs.Loop.{upto-turn, upto-end}
 use Rattle.dual.specs.Rules.{dualAlgebra, dualLayout}
-use Rattle.matrices.specs.Matrix.{cell}
+use Rattle.matrices.specs.Matrix.{Row, cell}
 use Rattle.matrices.specs.Determinant.{diagonal}
-use Rattle.matrices.proofs.Places.{inside}
+use Rattle.matrices.proofs.Places.{row-of}
 use Rattle.dual_lu.proofs.columns.diagonal_product.Statement.{statement}
 use Rattle.dual_lu.proofs.columns.diagonal_product.Tie as tie
 
 abbrev Inv-loop : tie.InvT-loop
-Inv-loop n a x₀ i₀ x i = (i ≤ n) × (upto i n (λ k y. dualAlgebra .mul y (cell dualAlgebra n (decode dualLayout a) k k)) x ≡ diagonal dualAlgebra n (decode dualLayout a))
+Inv-loop n a x₀ i₀ x i = upto i n (λ k y. dualAlgebra .mul y (cell dualAlgebra n (decode dualLayout a) k k)) x ≡ diagonal dualAlgebra n (decode dualLayout a)
 
 abbrev μ-loop : tie.MeasureT-loop
 μ-loop n a x₀ i₀ x i = n - i
 
 loop-holds : tie.Need-loop-holds Inv-loop μ-loop
 unfolding diagonal
-loop-holds c = (omega arith, refl)
-
-mul-read : tie.Need-mul-read Inv-loop μ-loop
-mul-read c = let t = inside 2 _ _ _ _ (c .before .before .before .pre) (c .loop-test .taken) (c .loop-test .taken) in omega arith
-
-add-read : tie.Need-add-read Inv-loop μ-loop
-add-read c = let t = inside 2 _ _ _ _ (c .before .before .before .pre) (c .loop-test .taken) (c .loop-test .taken) in omega arith
-
-read-requires : tie.Need-read-requires Inv-loop μ-loop
-read-requires c κs = let t = inside 2 _ _ _ _ (c .before .before .before .pre) (c .loop-test .taken) (c .loop-test .taken) in omega arith
-
-mul-requires : tie.Need-mul-requires Inv-loop μ-loop
-mul-requires c κs = search needs
-
-add-i : tie.Need-add-i Inv-loop μ-loop
-add-i c = search needs
-
-loop-less : tie.Need-loop-less Inv-loop μ-loop
-loop-less c = search needs
+loop-holds c = refl
 
 loop-again : tie.Need-loop-again Inv-loop μ-loop
 unfolding cell
-loop-again c =
-    let at = c .before .before .before in
-    let s = at .before .before .args in
-    (omega arith, upto-turn (at .loop .i) (s .n) _ (at .loop .x) _ (c .before .before .loop-test .taken) (c .mul .ensures ∙ ap (dualAlgebra .mul (at .loop .x)) (c .before .read .ensures)) (at .loop .inv .1))
-
-returns : tie.Need-returns Inv-loop μ-loop
-returns c = upto-end (c .before .loop .i) _ _ _ (c .loop-test .left) (c .before .loop .inv .1)
+loop-again c = upto-turn _ _ _ _ _ (c .before .before .loop-test .taken) (c .mul .ensures ∙ ap (dualAlgebra .mul _) (c .before .read .ensures)) (c .before .before .before .loop .inv)
 
 pub diagonal-product-spec : {M : Type 1} → statement M
 diagonal-product-spec =
@@ -57,11 +33,11 @@ diagonal-product-spec =
     Inv-loop
     μ-loop
     loop-holds
-    mul-read
-    add-read
-    read-requires
-    mul-requires
-    add-i
-    loop-less
+    (λ c. let t = row-of 2 _ _ _ (c .before .before .before .pre) (c .loop-test .taken) in search needs)
+    (λ c. let t = row-of 2 _ _ _ (c .before .before .before .pre) (c .loop-test .taken) in search needs)
+    (λ c κs. let t = row-of 2 _ _ _ (c .before .before .before .pre) (c .loop-test .taken) in search needs)
+    (λ c κs. search needs)
+    (λ c. search needs)
+    (λ c. search needs)
     loop-again
-    returns)
+    (λ c. upto-end _ _ _ _ (c .loop-test .left) (c .before .loop .inv)))

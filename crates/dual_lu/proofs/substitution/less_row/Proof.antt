@@ -1,5 +1,7 @@
-use mathlib.Core.Path.{_≡_, refl}
-use Prim.Native.Nat.{_-_}
+use mathlib.Core.Path.{_≡_}
+use Prim.Native.Nat.{ℕ, _+_, _*_, _≤_, _-_}
+use denote.Ref.{now}
+use lib.ListN.{length}
 use borrow.Author.Needs.{needs}
 use native.Mathlib.Omega.{arith}
 use Rattle.algebra.specs.Flat.{decode}
@@ -8,7 +10,7 @@ use Rattle.algebra.proofs.Loop.{upto-turn, upto-end}
 use Rattle.dual.specs.Rules.{dualAlgebra, dualLayout}
 use Rattle.matrices.specs.Matrix.{cell}
 use Rattle.matrices.specs.Solve.{less}
-use Rattle.matrices.proofs.Places.{inside}
+use mathlib.Core.Path.{refl}
 use Rattle.dual_lu.proofs.substitution.less_row.Statement.{statement}
 use Rattle.dual_lu.proofs.substitution.less_row.Tie as tie
 
@@ -18,39 +20,13 @@ Inv-loop n a x stride base i lo hi row r₀ k₀ r k = upto k hi (less dualAlgeb
 abbrev μ-loop : tie.MeasureT-loop
 μ-loop n a x stride base i lo hi row r₀ k₀ r k = hi - k
 
-mul-row : tie.Need-mul-row Inv-loop μ-loop
-mul-row c = let s = c .before .before in let t = inside 2 _ _ _ _ (s .pre .0) (s .pre .1 .1 .0) (s .pre .1 .1 .0) in omega arith
-
-loop-holds : tie.Need-loop-holds Inv-loop μ-loop
-loop-holds c = refl
-
-add-less-product : tie.Need-add-less-product Inv-loop μ-loop
-add-less-product c = let s = c .before .before .before in let k = c .before .loop .k in let t = inside 2 _ _ k _ (s .before .pre .0) (s .before .pre .1 .1 .0) (omega (arith, s .before .pre .1 .1 .1)) in let u = s .before .pre .1 .0 .inside k (omega (arith, s .before .pre .1 .1 .1)) in omega arith
-
-mul-less-product : tie.Need-mul-less-product Inv-loop μ-loop
-mul-less-product c = let s = c .before .before .before in let k = c .before .loop .k in let t = inside 2 _ _ k _ (s .before .pre .0) (s .before .pre .1 .1 .0) (omega (arith, s .before .pre .1 .1 .1)) in let u = s .before .pre .1 .0 .inside k (omega (arith, s .before .pre .1 .1 .1)) in omega arith
-
-add-less-product-2 : tie.Need-add-less-product-2 Inv-loop μ-loop
-add-less-product-2 c = let s = c .before .before .before in let k = c .before .loop .k in let t = inside 2 _ _ k _ (s .before .pre .0) (s .before .pre .1 .1 .0) (omega (arith, s .before .pre .1 .1 .1)) in let u = s .before .pre .1 .0 .inside k (omega (arith, s .before .pre .1 .1 .1)) in omega arith
-
-less-product-requires : tie.Need-less-product-requires Inv-loop μ-loop
-less-product-requires c κs = let s = c .before .before .before in let k = c .before .loop .k in let t = inside 2 _ _ k _ (s .before .pre .0) (s .before .pre .1 .1 .0) (omega (arith, s .before .pre .1 .1 .1)) in let u = s .before .pre .1 .0 .inside k (omega (arith, s .before .pre .1 .1 .1)) in (omega arith, omega arith)
-
-add-k : tie.Need-add-k Inv-loop μ-loop
-add-k c = search needs
-
-loop-less : tie.Need-loop-less Inv-loop μ-loop
-loop-less c = search needs
+-- where x[k] stands
+there : (c : tie.In-loop Inv-loop μ-loop) → let s = c .before .before .before .before .args in let k = c .before .loop .k in (k * s .stride + s .base) * 2 + 2 ≤ length (now (s .x))
+there c = c .before .before .before .before .pre .1 .0 .inside (c .before .loop .k) (omega (arith, c .before .before .before .before .pre .1 .1))
 
 loop-again : tie.Need-loop-again Inv-loop μ-loop
 unfolding less cell
-loop-again c =
-    let at = c .before .before in
-    let s = at .before .before .before .args in
-    upto-turn (at .loop .k) (s .hi) _ (at .loop .r) _ (c .before .loop-test .taken) (c .less-product .ensures) (at .loop .inv)
-
-returns : tie.Need-returns Inv-loop μ-loop
-returns c = upto-end (c .before .loop .k) _ _ _ (c .loop-test .left) (c .before .loop .inv)
+loop-again c = upto-turn _ _ _ _ _ (c .before .loop-test .taken) (c .less-product .ensures) (c .before .before .loop .inv)
 
 pub less-row-spec : {M : Type 1} → statement M
 less-row-spec =
@@ -58,13 +34,13 @@ less-row-spec =
     (tie.spec
     Inv-loop
     μ-loop
-    mul-row
-    loop-holds
-    add-less-product
-    mul-less-product
-    add-less-product-2
-    less-product-requires
-    add-k
-    loop-less
+    (λ c. search needs)
+    (λ c. refl)
+    (λ c. let t = there c in search needs)
+    (λ c. let t = there c in search needs)
+    (λ c. let t = there c in search needs)
+    (λ c κs. let t = there c in search needs)
+    (λ c. search needs)
+    (λ c. search needs)
     loop-again
-    returns)
+    (λ c. upto-end _ _ _ _ (c .loop-test .left) (c .before .loop .inv)))

@@ -1,52 +1,33 @@
 use mathlib.Core.Path.{_≡_, refl}
-use Prim.Native.Nat.{_≤_, _-_}
-use lib.ListN.{length}
+use Prim.Native.Nat.{ℕ, _-_, _<_}
 use borrow.Author.Needs.{needs}
 use native.Mathlib.Omega.{arith}
 use Rattle.algebra.specs.Flat.{decode}
-use Rattle.algebra.specs.Loop.{upto}
-use Rattle.algebra.proofs.Loop.{upto-turn, upto-end}
 use Rattle.dual.specs.Rules.{dualAlgebra, dualLayout}
 use Rattle.matrices.specs.Solve.{backRow, back}
-use Rattle.matrices.proofs.Places.{strided-keep}
+use Rattle.matrices.proofs.Places.{row-of, strided-keep}
+use Rattle.matrices.proofs.Turns.{Running, run-turn, run-end}
+use Rattle.dual_cells.proofs.Cells.{dual-laws}
 use Rattle.dual_lu.proofs.substitution.run_back.Statement.{statement}
 use Rattle.dual_lu.proofs.substitution.run_back.Tie as tie
 
 abbrev Inv-loop : tie.InvT-loop
-Inv-loop n a x₀ stride base t₀ x t = (t ≤ n) × ((length x ≡ length x₀) × (upto t n (λ k. backRow dualAlgebra n (decode dualLayout a) stride base (n - 1 - k)) (decode dualLayout x) ≡ back dualAlgebra n (decode dualLayout a) stride base (decode dualLayout x₀)))
+Inv-loop n a x₀ stride base t₀ x t = Running dual-laws (λ k. backRow dualAlgebra n (decode dualLayout a) stride base (n - 1 - k)) n x₀ x t (back dualAlgebra n (decode dualLayout a) stride base (decode dualLayout x₀))
 
 abbrev μ-loop : tie.MeasureT-loop
 μ-loop n a x₀ stride base t₀ x t = n - t
 
 loop-holds : tie.Need-loop-holds Inv-loop μ-loop
 unfolding back
-loop-holds c = (omega arith, (refl, refl))
-
-sub-back-row : tie.Need-sub-back-row Inv-loop μ-loop
-sub-back-row c = omega arith
-
-sub-back-row-2 : tie.Need-sub-back-row-2 Inv-loop μ-loop
-sub-back-row-2 c = omega arith
+loop-holds c = record { size = refl; rest = refl }
 
 back-row-requires : tie.Need-back-row-requires Inv-loop μ-loop
-back-row-requires c κs = (search needs, (strided-keep (c .before .before .loop .x) (c .before .before .loop .inv .1 .0) (c .before .before .before .before .before .pre .1), omega arith))
-
-add-t : tie.Need-add-t Inv-loop μ-loop
-add-t c = search needs
-
-loop-less : tie.Need-loop-less Inv-loop μ-loop
-loop-less c = search needs
-
-loop-again : tie.Need-loop-again Inv-loop μ-loop
-loop-again c =
-    let at = c .before .before .before .before .before in
-    (omega arith, (search needs, upto-turn (at .loop .t) _ _ (decode dualLayout (at .loop .x)) _ (c .before .before .before .before .loop-test .taken) (c .before .before .back-row .ensures) (at .loop .inv .1 .1)))
-
-same-length : tie.Need-same-length Inv-loop μ-loop
-same-length c = search needs
-
-returns : tie.Need-returns Inv-loop μ-loop
-returns c = upto-end (c .before .loop .t) _ _ _ (c .loop-test .left) (c .before .loop .inv .1 .1)
+back-row-requires c κs =
+    let s = c .before .before .before .before .before in
+    let at = c .before .before .loop in
+    let h : s .args .n - 1 - at .t < s .args .n = omega arith in
+    let v = strided-keep (at .x) (at .inv .size) (s .pre .1) in
+    (row-of 2 _ _ _ (s .pre .0) h, (v, v .inside _ h))
 
 pub run-back-spec : {M : Type 1} → statement M
 run-back-spec =
@@ -55,11 +36,11 @@ run-back-spec =
     Inv-loop
     μ-loop
     loop-holds
-    sub-back-row
-    sub-back-row-2
+    (λ c. omega arith)
+    (λ c. omega arith)
     back-row-requires
-    add-t
-    loop-less
-    loop-again
-    same-length
-    returns)
+    (λ c. search needs)
+    (λ c. search needs)
+    (λ c. search (needs, run-turn dual-laws))
+    (λ c. search needs)
+    (λ c. search (needs, run-end dual-laws)))

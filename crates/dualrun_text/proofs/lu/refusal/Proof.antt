@@ -2,8 +2,8 @@
 use mathlib.Core.Path.{_≡_, refl, sym, ap, _∙_}
 use denote.Ref.{now}
 use Rattle.algebra.specs.Outcome.{numberOf}
-use Rattle.dual_lu.specs.declared.LuAnswer.{LuAnswer}
-use Rattle.dual_lu.specs.Answers.{luOutcome, luColumn}
+use Rattle.matrices.specs.declared.LuAnswer.{LuAnswer}
+use Rattle.matrices.specs.Answers.{luOutcome, luColumn}
 use Rattle.dualrun_text.specs.Page.{page, written}
 use Rattle.dualrun_text.specs.Lines.{pairLine}
 use borrow.Author.Needs.{needs}

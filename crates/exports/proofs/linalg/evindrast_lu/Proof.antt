@@ -2,9 +2,9 @@ use mathlib.Core.Bool.{true, false}
 use denote.Ref.{now}
 use borrow.Author.Tests.{eq-eqb, ne-eqb}
 use Rattle.matrices.specs.Entries.{luAnswered}
-use Rattle.dual_lu.specs.Answers.{luOutcome, luColumn}
-use Rattle.dual_lu.specs.declared.LuAnswer.{LuAnswer}
-use Rattle.dual_lu.specs.declared.LuAnswer.the-variants.{Done}
+use Rattle.matrices.specs.Answers.{luOutcome, luColumn}
+use Rattle.matrices.specs.declared.LuAnswer.{LuAnswer}
+use Rattle.matrices.specs.declared.LuAnswer.the-variants.{Done}
 use Rattle.exports.specs.Numbered.{luNumbered}
 use Rattle.exports.proofs.Crossed.{crossed, lu-refused}
 use borrow.Author.Needs.{needs}

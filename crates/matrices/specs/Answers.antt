@@ -1,10 +1,10 @@
 -- Document 01's reading of the answers. Definitions only.
 use Prim.Native.Nat.{ℕ}
 use Rattle.algebra.specs.Outcome.{Outcome, value, refused}
-use Rattle.dual_lu.specs.declared.LuAnswer.{LuAnswer}
-use Rattle.dual_lu.specs.declared.LuAnswer.the-variants as lu
-use Rattle.dual_lu.specs.declared.SolveAnswer.{SolveAnswer}
-use Rattle.dual_lu.specs.declared.SolveAnswer.the-variants as solve
+use Rattle.matrices.specs.declared.LuAnswer.{LuAnswer}
+use Rattle.matrices.specs.declared.LuAnswer.the-variants as lu
+use Rattle.matrices.specs.declared.SolveAnswer.{SolveAnswer}
+use Rattle.matrices.specs.declared.SolveAnswer.the-variants as solve
 
 -- LU: done (0) with the swap count, or the number that it is refused by
 abbrev pub luOutcome : LuAnswer → Outcome ℕ

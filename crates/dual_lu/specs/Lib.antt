@@ -1,2 +1,0 @@
--- What the contracts of the entries are written with, beside the definitions of the crate `matrices`. Definitions only.
-pub mod Answers

@@ -1,0 +1,32 @@
+use Prim.Native.Nat.{_-_}
+use borrow.Author.Needs.{needs}
+use Rattle.matrices.proofs.Turns.{Columns, columns-start, columns-turn, columns-stop, columns-end}
+use Rattle.hyperdual_cells.proofs.Cells.{hyper-dual-laws}
+use Rattle.hyperdual_lu.proofs.columns.run_columns.Statement.{statement}
+use Rattle.hyperdual_lu.proofs.columns.run_columns.Tie as tie
+
+abbrev Inv-loop : tie.InvT-loop
+Inv-loop n a₀ order₀ swaps₀ i₀ a order swaps i = Columns hyper-dual-laws n a₀ a order₀ order swaps i
+
+abbrev μ-loop : tie.MeasureT-loop
+μ-loop n a₀ order₀ swaps₀ i₀ a order swaps i = n - i
+
+pub run-columns-spec : {M : Type 1} → statement M
+run-columns-spec =
+    tie.close
+    (tie.spec
+    Inv-loop
+    μ-loop
+    (λ c. columns-start hyper-dual-laws _ _ _ (c .before .before .pre .0) (c .before .before .pre .1))
+    (λ c κs. search needs)
+    (λ c. search needs)
+    (λ c. search needs)
+    (λ c. search needs)
+    (λ c. search needs)
+    (λ c. search (needs, columns-stop hyper-dual-laws))
+    (λ c. search needs)
+    (λ c. search needs)
+    (λ c. search (needs, columns-turn hyper-dual-laws))
+    (λ c. search needs)
+    (λ c. search needs)
+    (λ c. search (needs, columns-end hyper-dual-laws)))

@@ -1,0 +1,15 @@
+use borrow.Author.Needs.{needs}
+use Rattle.hyperdual_lu.proofs.columns.subtract_record.Statement.{statement}
+use Rattle.hyperdual_lu.proofs.columns.subtract_record.Tie as tie
+
+pub subtract-record-spec : {M : Type 1} → statement M
+subtract-record-spec =
+    tie.close
+    (tie.spec
+    (λ c κs. search needs)
+    (λ c κs. search needs)
+    (λ c κs. search needs)
+    (λ c κs. search needs)
+    (λ c κs. search needs)
+    (λ c. search needs)
+    (λ c. cc))

@@ -1,0 +1,28 @@
+use borrow.Author.Needs.{needs}
+use mathlib.Core.Path.{ap, _∙_}
+use Rattle.matrices.specs.Lu.{numbers}
+use Rattle.matrices.proofs.Turns.{factor-done, factor-singular}
+use Rattle.hyperdual_cells.proofs.Cells.{hyper-dual-laws}
+use Rattle.hyperdual_lu.proofs.factor.Statement.{statement}
+use Rattle.hyperdual_lu.proofs.factor.Tie as tie
+
+run-columns-requires : tie.Need-run-columns-requires
+run-columns-requires c κs = (search needs, c .before .before .before .before .number .ensures ∙ ap numbers (c .before .before .before .before .before .before .before .before .before .before .before .before .before .pre .1 .1))
+
+pub factor-spec : {M : Type 1} → statement M
+factor-spec =
+    tie.close
+    (tie.spec
+    (λ c κs. search needs)
+    (λ c κs. search needs)
+    run-columns-requires
+    (λ c. search needs)
+    (λ c κs. search needs)
+    (λ c κs. search needs)
+    (λ c. search needs)
+    (λ c. search needs)
+    (λ c. search needs)
+    (λ c. search (needs, factor-singular hyper-dual-laws))
+    (λ c. search needs)
+    (λ c. search needs)
+    (λ c. search (needs, factor-done hyper-dual-laws)))

@@ -1,0 +1,17 @@
+use borrow.Author.Needs.{needs}
+use Rattle.hyperdual.specs.Rules.{hyperDualAlgebra, hyperDualLayout}
+use Rattle.matrices.proofs.Answers.{inverse-refused}
+use Rattle.matrices.proofs.Turns.{inverse-allowed, inverse-answers}
+use Rattle.hyperdual_cells.proofs.Cells.{hyper-dual-laws}
+use Rattle.hyperdual_lu.proofs.inverse.Statement.{statement}
+use Rattle.hyperdual_lu.proofs.inverse.Tie as tie
+
+pub inverse-spec : {M : Type 1} → statement M
+inverse-spec =
+    tie.close
+    (tie.spec
+    (λ c κs. search needs)
+    (λ c. search (needs, inverse-refused hyperDualAlgebra hyperDualLayout))
+    (λ c κs. inverse-allowed hyper-dual-laws _ _ _ _ _ (c .before .before .inverse .ensures) (c .before .if1 .left))
+    (λ c. search needs)
+    (λ c. search (needs, inverse-answers hyper-dual-laws)))

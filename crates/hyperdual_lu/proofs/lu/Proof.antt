@@ -1,0 +1,19 @@
+use borrow.Author.Needs.{needs}
+use denote.Ref.{now}
+use Rattle.hyperdual.specs.Rules.{hyperDualAlgebra, hyperDualLayout}
+use Rattle.matrices.proofs.Answers.{lu-refused}
+use Rattle.matrices.proofs.Turns.{lu-allowed, lu-answers}
+use Rattle.hyperdual_cells.proofs.Cells.{hyper-dual-laws}
+use Rattle.hyperdual_lu.proofs.lu.Statement.{statement}
+use Rattle.hyperdual_lu.proofs.lu.Tie as tie
+
+pub lu-spec : {M : Type 1} → statement M
+lu-spec =
+    tie.close
+    (tie.spec
+    (λ c κs. search needs)
+    (λ c. search (needs, lu-refused hyperDualAlgebra hyperDualLayout))
+    (λ c κs. lu-allowed hyper-dual-laws _ _ _ (now (c .before .before .before .before .before .before .before .args .order)) _ (c .before .before .before .lu .ensures) (c .before .before .if1 .left))
+    (λ c. search needs)
+    (λ c. search needs)
+    (λ c. search (needs, lu-answers hyper-dual-laws)))

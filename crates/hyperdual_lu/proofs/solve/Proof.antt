@@ -1,0 +1,18 @@
+use borrow.Author.Needs.{needs}
+use denote.Ref.{now}
+use Rattle.hyperdual.specs.Rules.{hyperDualAlgebra, hyperDualLayout}
+use Rattle.matrices.proofs.Answers.{solve-refused}
+use Rattle.matrices.proofs.Turns.{solve-allowed, solve-answers}
+use Rattle.hyperdual_cells.proofs.Cells.{hyper-dual-laws}
+use Rattle.hyperdual_lu.proofs.solve.Statement.{statement}
+use Rattle.hyperdual_lu.proofs.solve.Tie as tie
+
+pub solve-spec : {M : Type 1} → statement M
+solve-spec =
+    tie.close
+    (tie.spec
+    (λ c κs. search needs)
+    (λ c. search (needs, solve-refused hyperDualAlgebra hyperDualLayout))
+    (λ c κs. let s = c .before .before .before .before .before .before .before .args in solve-allowed hyper-dual-laws _ _ _ (now (s .b)) (now (s .x)) _ (c .before .before .solve .ensures) (c .before .if1 .left))
+    (λ c. search needs)
+    (λ c. search (needs, solve-answers hyper-dual-laws)))

@@ -1,0 +1,22 @@
+use borrow.Author.Needs.{needs}
+use Rattle.matrices.proofs.Turns.{backed}
+use Rattle.hyperdual_cells.proofs.Cells.{hyper-dual-laws}
+use Rattle.hyperdual_lu.proofs.substitution.back_row.Statement.{statement}
+use Rattle.hyperdual_lu.proofs.substitution.back_row.Tie as tie
+
+pub back-row-spec : {M : Type 1} → statement M
+back-row-spec =
+    tie.close
+    (tie.spec
+    (λ c. search needs)
+    (λ c. search needs)
+    (λ c. search needs)
+    (λ c κs. search needs)
+    (λ c κs. search needs)
+    (λ c. search needs)
+    (λ c. search needs)
+    (λ c κs. search needs)
+    (λ c κs. search needs)
+    (λ c κs. search needs)
+    (λ c. search needs)
+    (λ c. search (needs, backed hyper-dual-laws)))

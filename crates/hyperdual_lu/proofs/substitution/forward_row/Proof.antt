@@ -1,0 +1,17 @@
+use borrow.Author.Needs.{needs}
+use Rattle.matrices.proofs.Turns.{forwarded}
+use Rattle.hyperdual_cells.proofs.Cells.{hyper-dual-laws}
+use Rattle.hyperdual_lu.proofs.substitution.forward_row.Statement.{statement}
+use Rattle.hyperdual_lu.proofs.substitution.forward_row.Tie as tie
+
+pub forward-row-spec : {M : Type 1} → statement M
+forward-row-spec =
+    tie.close
+    (tie.spec
+    (λ c. search needs)
+    (λ c. search needs)
+    (λ c κs. search needs)
+    (λ c κs. (search needs, (search needs, search needs)))
+    (λ c κs. search needs)
+    (λ c. search needs)
+    (λ c. search (needs, forwarded hyper-dual-laws)))

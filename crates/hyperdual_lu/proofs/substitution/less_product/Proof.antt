@@ -1,0 +1,13 @@
+use borrow.Author.Needs.{needs}
+use Rattle.hyperdual_lu.proofs.substitution.less_product.Statement.{statement}
+use Rattle.hyperdual_lu.proofs.substitution.less_product.Tie as tie
+
+pub less-product-spec : {M : Type 1} → statement M
+less-product-spec =
+    tie.close
+    (tie.spec
+    (λ c κs. search needs)
+    (λ c κs. search needs)
+    (λ c κs. search needs)
+    (λ c κs. search needs)
+    (λ c. cc))

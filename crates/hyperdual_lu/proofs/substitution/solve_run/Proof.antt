@@ -1,0 +1,16 @@
+use borrow.Author.Needs.{needs}
+use native.Mathlib.Omega.{arith}
+use Rattle.matrices.proofs.Places.{strided-whole}
+use Rattle.matrices.proofs.Turns.{solved}
+use Rattle.hyperdual_cells.proofs.Cells.{hyper-dual-laws}
+use Rattle.hyperdual_lu.proofs.substitution.solve_run.Statement.{statement}
+use Rattle.hyperdual_lu.proofs.substitution.solve_run.Tie as tie
+
+pub solve-run-spec : {M : Type 1} → statement M
+solve-run-spec =
+    tie.close
+    (tie.spec
+    (λ c κs. search needs)
+    (λ c κs. (search needs, strided-whole 4 _ _ (omega arith)))
+    (λ c. search needs)
+    (λ c. search (needs, solved hyper-dual-laws)))

@@ -1,0 +1,43 @@
+use Prim.Native.Nat.{_-_}
+use denote.Ref.{now}
+use lib.ListN.{getD}
+use borrow.Author.Needs.{needs}
+use native.Mathlib.Omega.{arith}
+use Rattle.algebra.specs.Algebra.{zeroOf}
+use Rattle.algebra.specs.Flat.{decode}
+use Rattle.hyperdual.specs.Rules.{hyperDualAlgebra, hyperDualLayout}
+use Rattle.matrices.proofs.Permutation.{order-below}
+use Rattle.matrices.proofs.Turns.{Starting, starting, start-turn, start-end}
+use Rattle.hyperdual_cells.proofs.Cells.{hyper-dual-laws}
+use Rattle.hyperdual_lu.proofs.substitution.solve_starts.Statement.{statement}
+use Rattle.hyperdual_lu.proofs.substitution.solve_starts.Tie as tie
+
+abbrev Inv-loop : tie.InvT-loop
+Inv-loop n order b x₀ i₀ x i = Starting hyper-dual-laws (λ k. getD (decode hyperDualLayout b) (getD order k 0) (zeroOf hyperDualAlgebra)) x₀ x i
+
+abbrev μ-loop : tie.MeasureT-loop
+μ-loop n order b x₀ i₀ x i = n - i
+
+read-requires : tie.Need-read-requires Inv-loop μ-loop
+read-requires c κs =
+    let at = c .before .before .before in
+    let s = at .before .before .before .before in
+    let h = order-below (s .args .n) (now (s .args .order)) (s .pre .0) (at .loop .i) (c .before .before .loop-test .taken) in
+    omega arith
+
+pub solve-starts-spec : {M : Type 1} → statement M
+solve-starts-spec =
+    tie.close
+    (tie.spec
+    Inv-loop
+    μ-loop
+    (λ c. starting hyper-dual-laws _ _)
+    (λ c. omega (arith, c .before .before .before .before .before .pre .0 .size))
+    (λ c. omega (arith, c .before .before .before .before .before .before .pre .0 .size))
+    read-requires
+    (λ c κs. search needs)
+    (λ c. search needs)
+    (λ c. search needs)
+    (λ c. search (needs, start-turn hyper-dual-laws))
+    (λ c. search needs)
+    (λ c. search (needs, start-end hyper-dual-laws)))

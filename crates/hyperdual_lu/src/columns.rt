@@ -1,0 +1,119 @@
+// LU column by column, and the product of the diagonal.
+use hyperdual::HyperDual;
+use matrices::Step;
+ghost use mathlib.Core.Path.{_≡_};
+ghost use Prim.Native.Nat.{ℕ, _+_, _*_, _<_, _≤_};
+ghost use lib.ListN.{length, getD, set};
+ghost use Rattle.algebra.specs.Algebra.{zeroOf};
+ghost use Rattle.algebra.specs.Flat.{decode};
+ghost use Rattle.algebra.specs.Loop.{upto};
+ghost use Rattle.hyperdual.specs.Rules.{hyperDualAlgebra, hyperDualLayout};
+ghost use Rattle.matrices.specs.Matrix.{Square, Row, cell};
+ghost use Rattle.matrices.specs.Lu.{going, subtract, reduceRow, reduce, column, numbers, luOf};
+ghost use Rattle.matrices.specs.Steps.{runAfter, swapsOf};
+ghost use Rattle.matrices.specs.Determinant.{diagonal, determinantOf};
+
+// Record `to` less x times record `from`.
+fn subtract_record(a: &mut [f64], to: usize, from: usize, x: HyperDual)
+    requires { ⌜ (to * 4 + 3 < length (now a)) × (from * 4 + 3 < length (now a)) ⌝ }
+    ensures { λ _. ⌜ decode hyperDualLayout (now (a .exit)) ≡ set (decode hyperDualLayout (now (a .entry))) to (hyperDualAlgebra .sub (getD (decode hyperDualLayout (now (a .entry))) to (zeroOf hyperDualAlgebra)) (hyperDualAlgebra .mul x (getD (decode hyperDualLayout (now (a .entry))) from (zeroOf hyperDualAlgebra)))) ⌝ }
+{
+    let u = hyperdual_cells::read(a, to);
+    let v = hyperdual_cells::read(a, from);
+    hyperdual_cells::write(a, to, u.sub(x.mul(v)));
+}
+
+// The rest of row j, whose multiplier is x.
+fn subtract_row(n: usize, a: &mut [f64], i: usize, j: usize, x: HyperDual)
+    requires { ⌜ Row 4 n i (now a) ⌝ }
+    requires { ⌜ Row 4 n j (now a) ⌝ }
+    requires { ⌜ cell hyperDualAlgebra n (decode hyperDualLayout (now a)) j i ≡ x ⌝ }
+    ensures { λ _. ⌜ decode hyperDualLayout (now (a .exit)) ≡ upto (i + 1) n (subtract hyperDualAlgebra n i j) (decode hyperDualLayout (now (a .entry))) ⌝ }
+{
+    let to = j * n;
+    let from = i * n;
+    for k in i + 1..n {
+        subtract_record(a, to + k, from + k, x);
+    }
+}
+
+// The multiplier of row j, then the rest of the row.
+fn reduce_row(n: usize, a: &mut [f64], i: usize, j: usize)
+    requires { ⌜ Row 4 n i (now a) ⌝ }
+    requires { ⌜ Row 4 n j (now a) ⌝ }
+    ensures { λ _. ⌜ decode hyperDualLayout (now (a .exit)) ≡ reduceRow hyperDualAlgebra n i j (decode hyperDualLayout (now (a .entry))) ⌝ }
+{
+    let at = j * n + i;
+    let x = hyperdual_cells::read(a, at).div(hyperdual_cells::read(a, i * n + i));
+    hyperdual_cells::write(a, at, x);
+    subtract_row(n, a, i, j, x);
+}
+
+// Every row below i.
+fn reduce_rows(n: usize, a: &mut [f64], i: usize)
+    requires { ⌜ Square 4 n (now a) ⌝ }
+    requires { ⌜ i < n ⌝ }
+    ensures { λ _. ⌜ decode hyperDualLayout (now (a .exit)) ≡ reduce hyperDualAlgebra n i (decode hyperDualLayout (now (a .entry))) ⌝ }
+{
+    for j in i + 1..n {
+        reduce_row(n, a, i, j);
+    }
+}
+
+// Column i: the pivot, the exchange, the rows below.
+fn run_column(n: usize, a: &mut [f64], order: &mut [usize], i: usize, swaps: usize) -> Step
+    requires { ⌜ Square 4 n (now a) ⌝ }
+    requires { ⌜ length (now order) ≡ n ⌝ }
+    requires { ⌜ i < n ⌝ }
+    requires { ⌜ swaps ≤ i ⌝ }
+    ensures { λ r. ⌜ swapsOf r ≤ i + 1 ⌝ }
+    ensures { λ r. ⌜ column hyperDualAlgebra n i (going (decode hyperDualLayout (now (a .entry))) (now (order .entry)) swaps) ≡ runAfter r (decode hyperDualLayout (now (a .exit))) (now (order .exit)) ⌝ }
+{
+    let s = matrices::rows::bring_pivot(4, n, a, order, i, swaps);
+    let Step::Going { swaps: t } = s else {
+        return s;
+    };
+    reduce_rows(n, a, i);
+    Step::Going { swaps: t }
+}
+
+// Every column in turn, from the matrix in a and the order 0, 1, .., n - 1.
+pub(crate) fn run_columns(n: usize, a: &mut [f64], order: &mut [usize]) -> Step
+    requires { ⌜ Square 4 n (now a) ⌝ }
+    requires { ⌜ now order ≡ numbers n ⌝ }
+    ensures { λ r. ⌜ luOf hyperDualAlgebra n (decode hyperDualLayout (now (a .entry))) ≡ runAfter r (decode hyperDualLayout (now (a .exit))) (now (order .exit)) ⌝ }
+{
+    let mut swaps = 0;
+    for i in 0..n {
+        let s = run_column(n, a, order, i, swaps);
+        let Step::Going { swaps: t } = s else {
+            return s;
+        };
+        swaps = t;
+    }
+    Step::Going { swaps }
+}
+
+// The Product of the diagonal.
+fn diagonal_product(n: usize, a: &[f64]) -> HyperDual
+    requires { ⌜ Square 4 n (now a) ⌝ }
+    ensures { λ r. ⌜ r ≡ diagonal hyperDualAlgebra n (decode hyperDualLayout (now (a .entry))) ⌝ }
+{
+    let mut x = HyperDual::ONE;
+    for i in 0..n {
+        x = x.mul(hyperdual_cells::read(a, i * n + i));
+    }
+    x
+}
+
+// Negated where the count is odd.
+pub(crate) fn determinant_of(n: usize, a: &[f64], swaps: usize) -> HyperDual
+    requires { ⌜ Square 4 n (now a) ⌝ }
+    ensures { λ r. ⌜ r ≡ determinantOf hyperDualAlgebra n (decode hyperDualLayout (now (a .entry))) swaps ⌝ }
+{
+    let x = diagonal_product(n, a);
+    if swaps % 2 == 1 {
+        return x.neg();
+    }
+    x
+}

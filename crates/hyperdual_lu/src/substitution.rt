@@ -1,0 +1,165 @@
+// Solve, and inverse column by column. The starts of a vector are written first; then each element is made from what stands in its place.
+// The vector's element i is record i * stride + base of x: all of x (1, 0), or a column of a matrix (n, j).
+use hyperdual::HyperDual;
+ghost use mathlib.Core.Path.{_≡_};
+ghost use Prim.Native.Nat.{ℕ, _+_, _*_, _<_, _≤_};
+ghost use lib.ListN.{length, getD, set};
+ghost use Rattle.algebra.specs.Algebra.{zeroOf};
+ghost use Rattle.algebra.specs.Flat.{decode, tabulate};
+ghost use Rattle.algebra.specs.Loop.{upto};
+ghost use Rattle.hyperdual.specs.Rules.{hyperDualAlgebra, hyperDualLayout};
+ghost use Rattle.matrices.specs.Matrix.{Square, Row};
+ghost use Rattle.matrices.specs.Solve.{Strided, less, eliminate, forwardFrom, backRow, back, substituteFrom, solveOf};
+ghost use Rattle.matrices.specs.Inverse.{units, inverseOf};
+ghost use Rattle.matrices.specs.Order.{Order};
+
+// v less record p of a times record q of x.
+fn less_product(v: HyperDual, a: &[f64], p: usize, x: &[f64], q: usize) -> HyperDual
+    requires { ⌜ (p * 4 + 3 < length (now a)) × (q * 4 + 3 < length (now x)) ⌝ }
+    ensures { λ r. ⌜ r ≡ hyperDualAlgebra .sub v (hyperDualAlgebra .mul (getD (decode hyperDualLayout (now (a .entry))) p (zeroOf hyperDualAlgebra)) (getD (decode hyperDualLayout (now (x .entry))) q (zeroOf hyperDualAlgebra))) ⌝ }
+{
+    v.sub(hyperdual_cells::read(a, p).mul(hyperdual_cells::read(x, q)))
+}
+
+// v less the products of row i with x, columns lo..hi.
+fn less_row(
+    n: usize,
+    a: &[f64],
+    x: &[f64],
+    stride: usize,
+    base: usize,
+    i: usize,
+    lo: usize,
+    hi: usize,
+    v: HyperDual,
+) -> HyperDual
+    requires { ⌜ Row 4 n i (now a) ⌝ }
+    requires { ⌜ Strided 4 n stride base (now x) ⌝ }
+    requires { ⌜ hi ≤ n ⌝ }
+    ensures { λ r. ⌜ r ≡ upto lo hi (less hyperDualAlgebra n (decode hyperDualLayout (now (a .entry))) stride base i (decode hyperDualLayout (now (x .entry)))) v ⌝ }
+{
+    let row = i * n;
+    let mut r = v;
+    for k in lo..hi {
+        r = less_product(r, a, row + k, x, k * stride + base);
+    }
+    r
+}
+
+// x[i], less the products with the elements before it.
+fn forward_row(n: usize, a: &[f64], x: &mut [f64], stride: usize, base: usize, i: usize)
+    requires { ⌜ Row 4 n i (now a) ⌝ }
+    requires { ⌜ Strided 4 n stride base (now x) ⌝ }
+    requires { ⌜ (i * stride + base) * 4 + 4 ≤ length (now x) ⌝ }
+    ensures { λ _. ⌜ decode hyperDualLayout (now (x .exit)) ≡ upto 0 i (eliminate hyperDualAlgebra n (decode hyperDualLayout (now (a .entry))) stride base i) (decode hyperDualLayout (now (x .entry))) ⌝ }
+{
+    let at = i * stride + base;
+    let v = hyperdual_cells::read(x, at);
+    let r = less_row(n, a, x, stride, base, i, 0, i, v);
+    hyperdual_cells::write(x, at, r);
+}
+
+// From the first element down.
+fn run_forward(n: usize, a: &[f64], x: &mut [f64], stride: usize, base: usize)
+    requires { ⌜ Square 4 n (now a) ⌝ }
+    requires { ⌜ Strided 4 n stride base (now x) ⌝ }
+    ensures { λ _. ⌜ decode hyperDualLayout (now (x .exit)) ≡ forwardFrom hyperDualAlgebra n (decode hyperDualLayout (now (a .entry))) stride base (decode hyperDualLayout (now (x .entry))) ⌝ }
+{
+    for i in 0..n {
+        forward_row(n, a, x, stride, base, i);
+    }
+}
+
+// x[i], less the products with the elements after it, over a[(i, i)].
+fn back_row(n: usize, a: &[f64], x: &mut [f64], stride: usize, base: usize, i: usize)
+    requires { ⌜ Row 4 n i (now a) ⌝ }
+    requires { ⌜ Strided 4 n stride base (now x) ⌝ }
+    requires { ⌜ (i * stride + base) * 4 + 4 ≤ length (now x) ⌝ }
+    ensures { λ _. ⌜ decode hyperDualLayout (now (x .exit)) ≡ backRow hyperDualAlgebra n (decode hyperDualLayout (now (a .entry))) stride base i (decode hyperDualLayout (now (x .entry))) ⌝ }
+{
+    let at = i * stride + base;
+    let r = less_row(
+        n,
+        a,
+        x,
+        stride,
+        base,
+        i,
+        i + 1,
+        n,
+        hyperdual_cells::read(x, at),
+    );
+    hyperdual_cells::write(x, at, r.div(hyperdual_cells::read(a, i * n + i)));
+}
+
+// From the last element up.
+fn run_back(n: usize, a: &[f64], x: &mut [f64], stride: usize, base: usize)
+    requires { ⌜ Square 4 n (now a) ⌝ }
+    requires { ⌜ Strided 4 n stride base (now x) ⌝ }
+    ensures { λ _. ⌜ decode hyperDualLayout (now (x .exit)) ≡ back hyperDualAlgebra n (decode hyperDualLayout (now (a .entry))) stride base (decode hyperDualLayout (now (x .entry))) ⌝ }
+{
+    for t in 0..n {
+        back_row(n, a, x, stride, base, n - 1 - t);
+    }
+}
+
+// Forward, then back, from the starts that stand in x.
+fn run(n: usize, a: &[f64], x: &mut [f64], stride: usize, base: usize)
+    requires { ⌜ Square 4 n (now a) ⌝ }
+    requires { ⌜ Strided 4 n stride base (now x) ⌝ }
+    ensures { λ _. ⌜ decode hyperDualLayout (now (x .exit)) ≡ substituteFrom hyperDualAlgebra n (decode hyperDualLayout (now (a .entry))) stride base (decode hyperDualLayout (now (x .entry))) ⌝ }
+{
+    run_forward(n, a, x, stride, base);
+    run_back(n, a, x, stride, base);
+}
+
+// x[i] starts as b[order[i]].
+fn solve_starts(n: usize, order: &[usize], b: &[f64], x: &mut [f64])
+    requires { ⌜ Order n (now order) ⌝ }
+    requires { ⌜ length (now b) ≡ n * 4 ⌝ }
+    requires { ⌜ length (now x) ≡ n * 4 ⌝ }
+    ensures { λ _. ⌜ decode hyperDualLayout (now (x .exit)) ≡ tabulate (λ k. getD (decode hyperDualLayout (now (b .entry))) (getD (now (order .entry)) k 0) (zeroOf hyperDualAlgebra)) n 0 ⌝ }
+{
+    for i in 0..n {
+        let p = order[i];
+        hyperdual_cells::write(x, i, hyperdual_cells::read(b, p));
+    }
+}
+
+// Solve once the size, the lengths and the order are right.
+pub(crate) fn solve_run(n: usize, a: &[f64], order: &[usize], b: &[f64], x: &mut [f64])
+    requires { ⌜ Square 4 n (now a) ⌝ }
+    requires { ⌜ Order n (now order) ⌝ }
+    requires { ⌜ length (now b) ≡ n * 4 ⌝ }
+    requires { ⌜ length (now x) ≡ n * 4 ⌝ }
+    ensures { λ _. ⌜ decode hyperDualLayout (now (x .exit)) ≡ solveOf hyperDualAlgebra n (decode hyperDualLayout (now (a .entry))) (now (order .entry)) (decode hyperDualLayout (now (b .entry))) ⌝ }
+{
+    solve_starts(n, order, b, x);
+    run(n, a, x, 1, 0);
+}
+
+// Row i of the starts of inverse is one at column order[i], else zero.
+fn inverse_starts(n: usize, order: &[usize], x: &mut [f64])
+    requires { ⌜ Order n (now order) ⌝ }
+    requires { ⌜ Square 4 n (now x) ⌝ }
+    ensures { λ _. ⌜ decode hyperDualLayout (now (x .exit)) ≡ units hyperDualAlgebra n (now (order .entry)) ⌝ }
+{
+    matrices::floats::clear(x);
+    for i in 0..n {
+        let p = order[i];
+        hyperdual_cells::write(x, i * n + p, HyperDual::ONE);
+    }
+}
+
+// Inverse once the size, the lengths and the order are right.
+pub(crate) fn inverse_run(n: usize, a: &[f64], order: &[usize], x: &mut [f64])
+    requires { ⌜ Square 4 n (now a) ⌝ }
+    requires { ⌜ Order n (now order) ⌝ }
+    requires { ⌜ Square 4 n (now x) ⌝ }
+    ensures { λ _. ⌜ decode hyperDualLayout (now (x .exit)) ≡ inverseOf hyperDualAlgebra n (decode hyperDualLayout (now (a .entry))) (now (order .entry)) ⌝ }
+{
+    inverse_starts(n, order, x);
+    for j in 0..n {
+        run(n, a, x, n, j);
+    }
+}

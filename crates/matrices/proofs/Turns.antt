@@ -1,0 +1,308 @@
+-- The code over any record, function by function: its loops' invariants, a turn of each, and what a function's calls amount to. Each record's proofs cite these. Assumes nothing.
+use Prim.Native.Nat.{ℕ, _+_, _-_, _*_, _%_, _≤_, _<_}
+use mathlib.Core.Path.{_≡_, refl, ap, sym, subst, _∙_}
+use mathlib.Core.List.{List}
+use native.Mathlib.Nat.{mul-le-mul-right}
+use native.Mathlib.Omega.{arith}
+use lib.ListN.{length, getD, set, replicate}
+use lib.Seq.{sets}
+use lib.Ieee.{Float}
+use borrow.Author.Tests.{eq-eqb, ne-eqb}
+use Rattle.real.specs.Operations as float
+use Rattle.algebra.specs.Algebra.{Algebra, zeroOf, oneOf}
+use Rattle.algebra.specs.Flat.{Layout, tabulate, decode, encode}
+use Rattle.algebra.specs.Loop.{upto}
+use Rattle.algebra.specs.Outcome.{value, refused}
+use Rattle.algebra.proofs.Flat.{decode-length, decode-size, record-there, decode-at, decode-store, encode-decode, decode-blank, tabulate-length, tabulate-at}
+use Rattle.algebra.proofs.Inside.{getD-inside}
+use Rattle.algebra.proofs.Loop.{upto-turn, upto-end}
+use Rattle.matrices.specs.Entries.{luRefusal, solveRefusal, inverseRefusal, determinantRefusal, LuLeft, luAnswered, luFinish, luLeft, solveAnswered, solveLeft, inverseLeft, determinantLeft}
+use Rattle.matrices.specs.Determinant.{diagonal, determinantOf}
+use Rattle.matrices.specs.Inverse.{units, inverseOf}
+use Rattle.matrices.specs.Lu.{going, subtract, reduceRow, reduce, reduceRun, column, numbers, luOf}
+use Rattle.matrices.specs.Matrix.{Square, Row, cell, store}
+use Rattle.matrices.specs.Order.{Order}
+use Rattle.matrices.specs.Solve.{Strided, less, eliminate, forwardFrom, backRow, back, substituteFrom, solveOf}
+use Rattle.matrices.specs.Steps.{runAfter, swapsOf}
+use Rattle.matrices.specs.declared.Step.{Step}
+use Rattle.matrices.specs.declared.Step.the-variants.{Singular, Going}
+use Rattle.matrices.proofs.Answers.{lu-fits, solve-fits, inverse-fits, determinant-fits, lu-done, solve-done, inverse-done, determinant-done, finish-done, finish-singular}
+use Rattle.matrices.proofs.Fill.{Filled, filled-more, filled-all}
+use Rattle.matrices.proofs.Inner.{subtract-by, multiplier-stays, multiplier-is, forward-by, backRow-by}
+use Rattle.matrices.proofs.Laws.{Laws}
+use Rattle.matrices.proofs.Lu.{run-stops}
+use Rattle.matrices.proofs.Odd.{odd-mod}
+use Rattle.matrices.proofs.Starts.{solve-by, inverse-by}
+
+module _ {R : Type 0} {A : Algebra R} {L : Layout R} (Q : Laws A L) where
+  -- ---- records in floats
+
+  -- record p is one of those held
+  pub held : (l : List Float) (p : ℕ) → p * L .width + L .width ≤ length l → p < length (decode L l)
+  held l p h = let z = Q .lawful .positive in omega (arith, decode-length L (Q .lawful) l, record-there L (Q .lawful) l p (omega arith))
+
+  -- floats of k whole records hold k
+  pub holds : (l : List Float) (k : ℕ) → length l ≡ k * L .width → length (decode L l) ≡ k
+  holds l k h = decode-length L (Q .lawful) l ∙ decode-size L (Q .lawful) l k h
+
+  -- floats of k whole records are the parts of what they hold
+  pub parts-of : (l : List Float) (k : ℕ) (m : List R) → length l ≡ k * L .width → decode L l ≡ m → l ≡ encode L m
+  parts-of l k m h e = sym (encode-decode L (Q .lawful) l k h) ∙ ap (encode L) e
+
+  -- record p, from its floats as the code reads them (a float that is not there counts as e)
+  pub read-at : (l : List Float) (p : ℕ) (e : Float) → p * L .width + (L .width - 1) < length l → L .make (λ i. getD l (p * L .width + i) e) ≡ getD (decode L l) p (zeroOf A)
+  read-at l p e h =
+      let z = Q .lawful .positive in
+      Q .lawful .reads (λ i. getD l (p * L .width + i) e) (λ i. getD l (p * L .width + i) float.zero) (λ i b. getD-inside l (p * L .width + i) e float.zero (omega arith))
+      ∙ sym (decode-at L (Q .lawful) l p (zeroOf A) (record-there L (Q .lawful) l p h))
+
+  -- its parts stored are the record stored
+  pub write-at : (l : List Float) (p : ℕ) (x : R) → p * L .width + (L .width - 1) < length l → decode L (sets l (p * L .width) (L .parts x)) ≡ set (decode L l) p x
+  write-at l p x h = decode-store L (Q .lawful) l p x (record-there L (Q .lawful) l p h)
+
+  -- ---- a loop over one lent buffer of records: before turn k, what is left to run gives the whole
+
+  pub record Running (f : ℕ → List R → List R) (n : ℕ) (x₀ x : List Float) (k : ℕ) (whole : List R) : Type 0 where
+    pub size : length x ≡ length x₀
+    pub rest : upto k n f (decode L x) ≡ whole
+
+  pub run-turn : (f : ℕ → List R → List R) (n : ℕ) (x₀ x x′ : List Float) (k : ℕ) (whole : List R) → Running f n x₀ x k whole → k < n → length x′ ≡ length x → decode L x′ ≡ f k (decode L x)
+      → Running f n x₀ x′ (k + 1) whole
+  run-turn f n x₀ x x′ k whole r h s e = record { size = s ∙ r .size; rest = upto-turn k n f (decode L x) (decode L x′) h e (r .rest) }
+
+  pub run-end : (f : ℕ → List R → List R) (n : ℕ) (x₀ x : List Float) (k : ℕ) (whole : List R) → Running f n x₀ x k whole → n ≤ k → decode L x ≡ whole
+  run-end f n x₀ x k whole r h = upto-end k n f (decode L x) h (r .rest)
+
+  -- ---- a row below the pivot
+
+  -- before column k: the multiplier is as it was, and what is left to run gives the whole
+  pub record Subtracting (n : ℕ) (a₀ : List Float) (i j : ℕ) (x : R) (a : List Float) (k : ℕ) : Type 0 where
+    pub from : i < k
+    pub size : length a ≡ length a₀
+    pub multiplier : cell A n (decode L a) j i ≡ x
+    pub rest : upto k n (subtract A n i j) (decode L a) ≡ upto (i + 1) n (subtract A n i j) (decode L a₀)
+
+  pub subtract-start : (n : ℕ) (a : List Float) (i j : ℕ) (x : R) → cell A n (decode L a) j i ≡ x → Subtracting n a i j x a (i + 1)
+  subtract-start n a i j x e = record { from = omega arith; size = refl; multiplier = e; rest = refl }
+
+  pub subtract-turn : (n : ℕ) (a₀ : List Float) (i j : ℕ) (x : R) (a a′ : List Float) (k : ℕ) → Subtracting n a₀ i j x a k → k < n → length a′ ≡ length a
+      → decode L a′ ≡ set (decode L a) (j * n + k) (A .sub (getD (decode L a) (j * n + k) (zeroOf A)) (A .mul x (getD (decode L a) (i * n + k) (zeroOf A))))
+      → Subtracting n a₀ i j x a′ (k + 1)
+  subtract-turn n a₀ i j x a a′ k r h s w =
+      let e = w ∙ subtract-by A n i j k x (decode L a) (r .multiplier) in
+      record {
+        from = omega (arith, r .from);
+        size = s ∙ r .size;
+        multiplier = ap (λ (m : List R). cell A n m j i) e ∙ multiplier-stays A n i j k (decode L a) (r .from) ∙ r .multiplier;
+        rest = upto-turn k n (subtract A n i j) (decode L a) (decode L a′) h e (r .rest);
+      }
+
+  -- the multiplier is stored, and is what stands there
+  pub multiplier-stored : (n i j : ℕ) (a a′ : List Float) (x : R) → Row (L .width) n j a → i < n → decode L a′ ≡ set (decode L a) (j * n + i) x → cell A n (decode L a′) j i ≡ x
+  unfolding store
+  multiplier-stored n i j a a′ x r h e =
+      let m : (j * n + i + 1) * L .width ≤ (j * n + n) * L .width = mul-le-mul-right (L .width) (omega arith) in
+      let p : (j * n + i) * L .width + L .width ≤ length a = omega (arith, r .whole) in
+      ap (λ (l : List R). cell A n l j i) e ∙ multiplier-is A n (decode L a) j i x (held a (j * n + i) p)
+
+  -- from the calls: the two records read, their quotient stored, the rest of the row
+  pub reduced : (n i j : ℕ) (a a′ a″ : List Float) (u v x : R) → u ≡ getD (decode L a) (j * n + i) (zeroOf A) → v ≡ getD (decode L a) (i * n + i) (zeroOf A) → x ≡ A .div u v
+      → decode L a′ ≡ set (decode L a) (j * n + i) x → decode L a″ ≡ upto (i + 1) n (subtract A n i j) (decode L a′) → decode L a″ ≡ reduceRow A n i j (decode L a)
+  unfolding reduceRow store cell
+  reduced n i j a a′ a″ u v x eu ev ex es er =
+      er ∙ ap (upto (i + 1) n (subtract A n i j)) (es ∙ ap (set (decode L a) (j * n + i)) (ex ∙ (λ t. A .div (eu t) (ev t))))
+
+  -- ---- a column: what the pivot's search left, then the rows below
+
+  pub column-stops : (n i : ℕ) (a a′ : List Float) (p p′ : List ℕ) (swaps : ℕ) (r : Step) (c : ℕ)
+      → column A n i (going (decode L a) p swaps) ≡ reduceRun A n i (runAfter r (decode L a′) p′) → r ≡ Singular c → column A n i (going (decode L a) p swaps) ≡ runAfter r (decode L a′) p′
+  column-stops n i a a′ p p′ swaps r c e t =
+      e ∙ ap (λ (s : Step). reduceRun A n i (runAfter s (decode L a′) p′)) t ∙ sym (ap (λ (s : Step). runAfter s (decode L a′) p′) t)
+
+  pub column-goes : (n i : ℕ) (a a′ a″ : List Float) (p p′ : List ℕ) (swaps t : ℕ) (r : Step)
+      → column A n i (going (decode L a) p swaps) ≡ reduceRun A n i (runAfter r (decode L a′) p′) → r ≡ Going t → decode L a″ ≡ reduce A n i (decode L a′)
+      → column A n i (going (decode L a) p swaps) ≡ going (decode L a″) p′ t
+  column-goes n i a a′ a″ p p′ swaps t r e g d =
+      e ∙ ap (λ (s : Step). reduceRun A n i (runAfter s (decode L a′) p′)) g ∙ ap (λ (m : List R). going m p′ t) (sym d)
+
+  -- ---- the columns: before column i, what is left to run gives the whole
+
+  pub record Columns (n : ℕ) (a₀ a : List Float) (order₀ order : List ℕ) (swaps i : ℕ) : Type 0 where
+    pub within : i ≤ n
+    pub few : swaps ≤ i
+    pub square : Square (L .width) n a
+    pub size : length order ≡ n
+    pub kept : length order ≡ length order₀
+    pub rest : upto i n (column A n) (going (decode L a) order swaps) ≡ luOf A n (decode L a₀)
+
+  pub columns-start : (n : ℕ) (a : List Float) (order : List ℕ) → Square (L .width) n a → order ≡ numbers n → Columns n a a order order 0 0
+  unfolding luOf
+  columns-start n a order s e =
+      record { within = omega arith; few = omega arith; square = s; size = ap length e ∙ tabulate-length (λ k. k) n 0; kept = refl; rest = ap (λ (p : List ℕ). upto 0 n (column A n) (going (decode L a) p 0)) e }
+
+  pub columns-turn : (n : ℕ) (a₀ a a′ : List Float) (order₀ order order′ : List ℕ) (swaps t i : ℕ) (r : Step) → Columns n a₀ a order₀ order swaps i → i < n
+      → column A n i (going (decode L a) order swaps) ≡ runAfter r (decode L a′) order′ → r ≡ Going t → swapsOf r ≤ i + 1 → length a′ ≡ length a → length order′ ≡ length order
+      → Columns n a₀ a′ order₀ order′ t (i + 1)
+  columns-turn n a₀ a a′ order₀ order order′ swaps t i r c h e g b sa so = record {
+    within = omega arith;
+    few = omega (arith, ap swapsOf g);
+    square = record { small = c .square .small; some = c .square .some; narrow = c .square .narrow; full = sa ∙ c .square .full };
+    size = so ∙ c .size;
+    kept = so ∙ c .kept;
+    rest = upto-turn i n (column A n) (going (decode L a) order swaps) (going (decode L a′) order′ t) h (sym (e ∙ ap (λ (s : Step). runAfter s (decode L a′) order′) g)) (c .rest);
+  }
+
+  pub columns-stop : (n : ℕ) (a₀ a a′ : List Float) (order₀ order order′ : List ℕ) (swaps i c : ℕ) (r : Step) → Columns n a₀ a order₀ order swaps i → i < n
+      → column A n i (going (decode L a) order swaps) ≡ runAfter r (decode L a′) order′ → r ≡ Singular c → luOf A n (decode L a₀) ≡ runAfter r (decode L a′) order′
+  columns-stop n a₀ a a′ order₀ order order′ swaps i c r k h e g =
+      let f = ap (λ (s : Step). runAfter s (decode L a′) order′) g in
+      run-stops A n i c (going (decode L a) order swaps) h (e ∙ f) (k .rest) ∙ sym f
+
+  pub columns-end : (n : ℕ) (a₀ a : List Float) (order₀ order : List ℕ) (swaps i : ℕ) → Columns n a₀ a order₀ order swaps i → n ≤ i → luOf A n (decode L a₀) ≡ going (decode L a) order swaps
+  columns-end n a₀ a order₀ order swaps i c h = sym (upto-end i n (column A n) (going (decode L a) order swaps) h (c .rest))
+
+  -- ---- the determinant: negated where the count is odd
+
+  pub determinant-odd : (n : ℕ) (a : List Float) (swaps : ℕ) (x y : R) → swaps % 2 ≡ 1 → x ≡ diagonal A n (decode L a) → y ≡ A .neg x → y ≡ determinantOf A n (decode L a) swaps
+  unfolding determinantOf
+  determinant-odd n a swaps x y h e f = rw (sym (odd-mod swaps) ∙ eq-eqb _ _ h) (f ∙ ap (A .neg) e)
+
+  pub determinant-even : (n : ℕ) (a : List Float) (swaps : ℕ) (x : R) → (swaps % 2 ≡ 1 → ⊥) → x ≡ diagonal A n (decode L a) → x ≡ determinantOf A n (decode L a) swaps
+  unfolding determinantOf
+  determinant-even n a swaps x h e = rw (sym (odd-mod swaps) ∙ ne-eqb _ _ h) e
+
+  -- ---- LU whole: a copy, the order numbered, the columns, and both buffers cleared where it is singular
+
+  module _ (n : ℕ) (a f l m : List Float) (o q p : List ℕ) (r : Step) (square : Square (L .width) n f) (long : length o ≡ n)
+      (copied : l ≡ a) (ran : luOf A n (decode L l) ≡ runAfter r (decode L m) p) (kept : length l ≡ length f) (held : length m ≡ length l) (numbered : length q ≡ length o) (ordered : length p ≡ length q) where
+    whole : luOf A n (decode L a) ≡ runAfter r (decode L m) p
+    whole = ap (λ (k : List Float). luOf A n (decode L k)) (sym copied) ∙ ran
+
+    full : length m ≡ n * n * L .width
+    full = held ∙ kept ∙ square .full
+
+    pub factor-done : (swaps : ℕ) → r ≡ Going swaps → luAnswered (value swaps) 0 m p ≡ luFinish A L n (luOf A n (decode L a))
+    factor-done swaps g = finish-done A L (Q .lawful) n (luOf A n (decode L a)) m p swaps (whole ∙ ap (λ (s : Step). runAfter s (decode L m) p) g) full
+
+    pub factor-singular : (c : ℕ) (g : List Float) (z : List ℕ) → r ≡ Singular c → g ≡ replicate (length m) float.zero → z ≡ replicate (length p) 0
+        → luAnswered (refused 6) c g z ≡ luFinish A L n (luOf A n (decode L a))
+    factor-singular c g z e eg ez =
+        finish-singular A L (Q .lawful) n (luOf A n (decode L a)) g z c (whole ∙ ap (λ (s : Step). runAfter s (decode L m) p) e)
+        (eg ∙ ap (λ (k : ℕ). replicate k float.zero) full) (ez ∙ ap (λ (k : ℕ). replicate k 0) (ordered ∙ numbered ∙ long))
+
+  -- ---- solving: an element from what stands in its place, forward and back
+
+  pub forwarded : (n stride base i : ℕ) (a x x′ : List Float) (u r : R) → Strided (L .width) n stride base x → (i * stride + base) * L .width + L .width ≤ length x
+      → u ≡ getD (decode L x) (i * stride + base) (zeroOf A) → r ≡ upto 0 i (less A n (decode L a) stride base i (decode L x)) u
+      → decode L x′ ≡ set (decode L x) (i * stride + base) r → decode L x′ ≡ upto 0 i (eliminate A n (decode L a) stride base i) (decode L x)
+  forwarded n stride base i a x x′ u r s h eu er e =
+      e ∙ ap (set (decode L x) (i * stride + base)) (er ∙ ap (upto 0 i (less A n (decode L a) stride base i (decode L x))) eu)
+      ∙ sym (forward-by A n (decode L a) stride base (s .some) (decode L x) i (held x (i * stride + base) h))
+
+  pub backed : (n stride base i : ℕ) (a x x′ : List Float) (u r v y : R) → Strided (L .width) n stride base x → (i * stride + base) * L .width + L .width ≤ length x
+      → u ≡ getD (decode L x) (i * stride + base) (zeroOf A) → r ≡ upto (i + 1) n (less A n (decode L a) stride base i (decode L x)) u → v ≡ getD (decode L a) (i * n + i) (zeroOf A) → y ≡ A .div r v
+      → decode L x′ ≡ set (decode L x) (i * stride + base) y → decode L x′ ≡ backRow A n (decode L a) stride base i (decode L x)
+  unfolding cell
+  backed n stride base i a x x′ u r v y s h eu er ev ey e =
+      e ∙ ap (set (decode L x) (i * stride + base)) (ey ∙ (λ t. A .div ((er ∙ ap (upto (i + 1) n (less A n (decode L a) stride base i (decode L x))) eu) t) (ev t)))
+      ∙ sym (backRow-by A n (decode L a) stride base (s .some) (decode L x) i (held x (i * stride + base) h))
+
+  -- forward, then back
+  pub substituted : (n stride base : ℕ) (a x x′ x″ : List Float) → decode L x′ ≡ forwardFrom A n (decode L a) stride base (decode L x) → decode L x″ ≡ back A n (decode L a) stride base (decode L x′)
+      → decode L x″ ≡ substituteFrom A n (decode L a) stride base (decode L x)
+  unfolding substituteFrom
+  substituted n stride base a x x′ x″ e f = f ∙ ap (back A n (decode L a) stride base) e
+
+  -- ---- solve: the starts written, then the run
+
+  -- before element i: those below it hold their starts
+  pub record Starting (f : ℕ → R) (x₀ x : List Float) (i : ℕ) : Type 0 where
+    pub size : length x ≡ length x₀
+    pub filled : Filled (zeroOf A) f (decode L x) i
+
+  pub starting : (f : ℕ → R) (x : List Float) → Starting f x x 0
+  starting f x = record { size = refl; filled = λ k h. absurd (omega arith) }
+
+  pub start-turn : (f : ℕ → R) (n : ℕ) (x₀ x x′ : List Float) (i : ℕ) (u : R) → Starting f x₀ x i → i < n → length x₀ ≡ n * L .width → length x′ ≡ length x → u ≡ f i → decode L x′ ≡ set (decode L x) i u
+      → Starting f x₀ x′ (i + 1)
+  start-turn f n x₀ x x′ i u t h z s eu e = record {
+    size = s ∙ t .size;
+    filled = subst (λ (l : List R). Filled (zeroOf A) f l (i + 1)) (sym (e ∙ ap (set (decode L x) i) eu)) (filled-more (zeroOf A) f (decode L x) i (omega (arith, h, holds x n (t .size ∙ z))) (t .filled));
+  }
+
+  pub start-end : (f : ℕ → R) (n : ℕ) (x₀ x : List Float) (i : ℕ) → Starting f x₀ x i → n ≤ i → length x₀ ≡ n * L .width → decode L x ≡ tabulate f n 0
+  start-end f n x₀ x i t h z =
+      let k = holds x n (t .size ∙ z) in
+      filled-all (zeroOf A) f (decode L x) (tabulate f n 0) i (omega arith) (k ∙ sym (tabulate-length f n 0)) (t .filled) (λ j b. tabulate-at f n 0 j (zeroOf A) (omega arith) ∙ ap f (omega arith))
+
+  pub solved : (n : ℕ) (a b x′ x″ : List Float) (p : List ℕ) → decode L x′ ≡ tabulate (λ k. getD (decode L b) (getD p k 0) (zeroOf A)) n 0 → decode L x″ ≡ substituteFrom A n (decode L a) 1 0 (decode L x′)
+      → decode L x″ ≡ solveOf A n (decode L a) p (decode L b)
+  solved n a b x′ x″ p e f = f ∙ ap (substituteFrom A n (decode L a) 1 0) e ∙ sym (solve-by A n (decode L a) p (decode L b))
+
+  -- ---- inverse: the ones and zeros written, then a run down each column
+
+  -- the one of row i
+  abbrev pub oneInRow : ℕ → List ℕ → ℕ → List R → List R
+  oneInRow n p i x = store A n x i (getD p i 0) (oneOf A)
+
+  pub ones-start : (n : ℕ) (p : List ℕ) (x x₁ : List Float) → Square (L .width) n x → x₁ ≡ replicate (length x) float.zero → Running (oneInRow n p) n x₁ x₁ 0 (units A n p)
+  unfolding units
+  ones-start n p x x₁ s e = record {
+    size = refl;
+    rest = ap (λ (l : List R). upto 0 n (oneInRow n p) l) (ap (decode L) (e ∙ ap (λ (k : ℕ). replicate k float.zero) (s .full)) ∙ decode-blank L (Q .lawful) A (Q .agrees) (n * n));
+  }
+
+  pub ones-turn : (n : ℕ) (p : List ℕ) (x₀ x x′ : List Float) (i : ℕ) → Running (oneInRow n p) n x₀ x i (units A n p) → i < n → length x′ ≡ length x → decode L x′ ≡ set (decode L x) (i * n + getD p i 0) (oneOf A)
+      → Running (oneInRow n p) n x₀ x′ (i + 1) (units A n p)
+  unfolding store
+  ones-turn n p x₀ x x′ i r h s e = run-turn (oneInRow n p) n x₀ x x′ i (units A n p) r h s e
+
+  pub inverse-start : (n : ℕ) (a : List Float) (p : List ℕ) (x : List Float) → Order n p → decode L x ≡ units A n p
+      → Running (λ j. substituteFrom A n (decode L a) n j) n x x 0 (inverseOf A n (decode L a) p)
+  inverse-start n a p x o e = record { size = refl; rest = ap (upto 0 n (λ j. substituteFrom A n (decode L a) n j)) e ∙ sym (inverse-by A n (decode L a) p o) }
+
+  -- ---- the entries: what a refusal's number 0 allows, and what is then answered
+
+  square-of : (n : ℕ) (l : List Float) → n ≤ 32 → length l ≡ n * n * L .width → Square (L .width) n l
+  square-of n l h e = record { small = h; some = Q .lawful .positive; narrow = Q .narrow; full = e }
+
+  pub lu-allowed : (n : ℕ) (a f : List Float) (o : List ℕ) (k : ℕ) → k ≡ luRefusal (L .width) n (length a) (length f) (length o) → k ≡ 0
+      → Square (L .width) n a × (Square (L .width) n f × (length o ≡ n))
+  lu-allowed n a f o k e z =
+      let t = lu-fits (L .width) n (length a) (length f) (length o) (sym e ∙ z) in
+      (square-of n a (t .small) (t .input), (square-of n f (t .small) (t .factors), t .order))
+
+  pub lu-answers : (n : ℕ) (a f : List Float) (o : List ℕ) (k : ℕ) (x : LuLeft) → k ≡ luRefusal (L .width) n (length a) (length f) (length o) → k ≡ 0
+      → x ≡ luFinish A L n (luOf A n (decode L a)) → x ≡ luLeft A L n a f o
+  lu-answers n a f o k x e z p = p ∙ lu-done A L n a f o (sym e ∙ z)
+
+  pub solve-allowed : (n : ℕ) (f : List Float) (o : List ℕ) (b x : List Float) (k : ℕ) → k ≡ solveRefusal (L .width) n (length f) o (length b) (length x) → k ≡ 0
+      → Square (L .width) n f × (Order n o × ((length b ≡ n * L .width) × (length x ≡ n * L .width)))
+  solve-allowed n f o b x k e z =
+      let t = solve-fits (L .width) n (length f) o (length b) (length x) (sym e ∙ z) in
+      (square-of n f (t .0 .small) (t .0 .factors), (t .0 .order, t .1))
+
+  pub solve-answers : (n : ℕ) (f : List Float) (o : List ℕ) (b x x′ : List Float) (k : ℕ) → k ≡ solveRefusal (L .width) n (length f) o (length b) (length x) → k ≡ 0 → length x′ ≡ length x
+      → decode L x′ ≡ solveOf A n (decode L f) o (decode L b) → solveAnswered (value tt) x′ ≡ solveLeft A L n f o b x
+  solve-answers n f o b x x′ k e z h p =
+      ap (solveAnswered (value tt)) (parts-of x′ n _ (h ∙ solve-allowed n f o b x k e z .1 .1 .1) p) ∙ solve-done A L n f o b x (sym e ∙ z)
+
+  pub inverse-allowed : (n : ℕ) (f : List Float) (o : List ℕ) (x : List Float) (k : ℕ) → k ≡ inverseRefusal (L .width) n (length f) o (length x) → k ≡ 0
+      → Square (L .width) n f × (Order n o × Square (L .width) n x)
+  inverse-allowed n f o x k e z =
+      let t = inverse-fits (L .width) n (length f) o (length x) (sym e ∙ z) in
+      (square-of n f (t .0 .small) (t .0 .factors), (t .0 .order, square-of n x (t .0 .small) (t .1)))
+
+  pub inverse-answers : (n : ℕ) (f : List Float) (o : List ℕ) (x x′ : List Float) (k : ℕ) → k ≡ inverseRefusal (L .width) n (length f) o (length x) → k ≡ 0 → length x′ ≡ length x
+      → decode L x′ ≡ inverseOf A n (decode L f) o → solveAnswered (value tt) x′ ≡ inverseLeft A L n f o x
+  inverse-answers n f o x x′ k e z h p =
+      ap (solveAnswered (value tt)) (parts-of x′ (n * n) _ (h ∙ inverse-allowed n f o x k e z .1 .1 .full) p) ∙ inverse-done A L n f o x (sym e ∙ z)
+
+  pub determinant-allowed : (n : ℕ) (f : List Float) (o : List ℕ) (s k : ℕ) → k ≡ determinantRefusal (L .width) n (length f) o s → k ≡ 0 → Square (L .width) n f
+  determinant-allowed n f o s k e z =
+      let t = determinant-fits (L .width) n (length f) o s (sym e ∙ z) in
+      square-of n f (t .small) (t .factors)
+
+  pub determinant-answers : (n : ℕ) (f : List Float) (o : List ℕ) (s k : ℕ) (x : R) → k ≡ determinantRefusal (L .width) n (length f) o s → k ≡ 0
+      → x ≡ determinantOf A n (decode L f) s → value x ≡ determinantLeft A L n f o s
+  determinant-answers n f o s k x e z p = ap (λ (y : R). value y) p ∙ determinant-done A L n f o s (sym e ∙ z)
