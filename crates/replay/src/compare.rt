@@ -117,7 +117,7 @@ fn print_function(function: u64) {
 fn print_answer(a: Answer, count: usize) {
     io::print_hex(STDOUT_FILENO, a.number, 2);
     let words = a.words;
-    let end = records::least(count, 16);
+    let end = super::least(count, 16);
     let mut i = 0usize;
     while i < end {
         io::write_all(STDOUT_FILENO, b" ");

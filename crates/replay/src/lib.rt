@@ -6,8 +6,10 @@ pub mod compare;
 pub mod matrices;
 pub mod records;
 pub mod tables;
+pub mod texts;
 
 use libc::STDOUT_FILENO;
+ghost use Prim.Native.Nat.{_≤_};
 
 // The bytes at..end of the buffer are still to be read.
 pub struct Place {
@@ -39,6 +41,12 @@ struct Seen {
     digits: u32,
     comment: bool,
     done: bool,
+}
+
+pub(crate) fn least(a: usize, b: usize) -> usize
+    ensures { λ r. ⌜ (r ≤ a) × (r ≤ b) ⌝ }
+{
+    if a < b { a } else { b }
 }
 
 pub fn start() -> Place {

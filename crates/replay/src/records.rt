@@ -3,7 +3,6 @@
 // The records' parts are read into flat floats.
 use super::Place;
 use super::tables;
-ghost use Prim.Native.Nat.{_≤_};
 
 pub const FUNCTION: usize = 0;
 
@@ -37,12 +36,6 @@ pub struct Read {
 pub struct Head {
     pub cases: u64,
     pub place: Place,
-}
-
-pub(crate) fn least(a: usize, b: usize) -> usize
-    ensures { λ r. ⌜ (r ≤ a) × (r ≤ b) ⌝ }
-{
-    if a < b { a } else { b }
 }
 
 // Reads the pool: its 256 words.
@@ -83,7 +76,7 @@ fn read_words(
             whole: false,
         };
     }
-    let end = least(count, 32 - from);
+    let end = super::least(count, 32 - from);
     let mut i = 0usize;
     while i < end {
         let w = super::next_word(file, buffer, here);
@@ -116,7 +109,7 @@ fn put_record(pool: &[u64; 256], places: u64, floats: &mut [f64; 96], end: usize
     }
     let mut at = end;
     let mut left = places;
-    let mut turns = least(parts, end);
+    let mut turns = super::least(parts, end);
     while turns > 0 {
         at = at - 1;
         floats[at] = pooled(pool, left);
