@@ -8,7 +8,7 @@ pub product : (m n x y : ℕ) → x ≤ m → y ≤ n → x * y ≤ m * n
 product m n x y h k = mul-le-mul h k
 
 -- what the polynomial's falling terms take is at least what its rising ones add
-sum-below : (t m n : ℕ) → t < 4294967296 → m ≤ 779125966 * t → n ≤ 275901618 * t → 2147461529 - t / 4 + t / 2048 + m / 4294967296 + n / 4294967296 < 2147483648
+sum-below : (t m n : ℕ) → t < 4294967296 → m ≤ 779125966 * t → n ≤ 275901618 * t → (4398001211392 - 511 * t) / 2048 + m / 4294967296 + n / 4294967296 < 2147483648
 sum-below t m n h k l = omega arith
 
 -- the polynomial: t's square and fourth power are at most t, so its falling terms outweigh its rising ones
@@ -17,14 +17,14 @@ pub record Polynomial (t square fourth second third : ℕ) : Type 0 where
   pub again : square * square < 2 ^ 64
   pub middle : second * square < 2 ^ 64
   pub last : third * fourth < 2 ^ 64
-  pub below : 2147461529 - t / 4 + t / 2048 + second * square / 4294967296 + third * fourth / 4294967296 < 2 ^ 31
+  pub below : (4398001211392 - 511 * t) / 2048 + second * square / 4294967296 + third * fourth / 4294967296 < 2 ^ 31
 
 pub polynomial : (t : ℕ) → t < 2 ^ 32 →
-    Polynomial t (t * t / 4294967296) (t * t / 4294967296 * (t * t / 4294967296) / 4294967296) (779125966 - t / 8 - t / 512) (275901618 - t / 64)
+    Polynomial t (t * t / 4294967296) (t * t / 4294967296 * (t * t / 4294967296) / 4294967296) ((398912494592 - 65 * t) / 512) (275901618 - t / 64)
 polynomial t h =
     let square = t * t / 4294967296 in
     let fourth = square * square / 4294967296 in
-    let second = 779125966 - t / 8 - t / 512 in
+    let second = (398912494592 - 65 * t) / 512 in
     let third = 275901618 - t / 64 in
     let a : t * t ≤ t * 4294967295 = mul-le-mul (le-refl t) (omega arith) in
     let b : square ≤ t = omega arith in

@@ -10,22 +10,22 @@ pub(crate) struct Guess {
     pub inverse: u64,
 }
 
-// 2^31 by the root of 1 + t / 2^32, to some 16 digits: a polynomial of degree 5 in t. The odd powers have coefficients that need shifts alone:
-// -511/1024, -65/256 and -1/32; the even ones are fitted to these.
+// 2^31 by the root of 1 + u, u = t / 2^32, to some 16 digits: 0.99999 - 511/1024 u + 0.36281 u^2 - 65/256 u^3 + 0.12848 u^4 - 1/32 u^5.
+// Fitted so that the odd powers need no multiplication but by a whole number.
 pub(crate) fn inverse_root(t: u64) -> u64
     requires { ⌜ t < 2 ^ 32 ⌝ }
     ensures { λ y. ⌜ y < 2 ^ 31 ⌝ }
 {
     let square = t * t / ONE;
     let fourth = square * square / ONE;
-    let first = 2147461529 - t / 4 + t / 2048;
-    let second = 779125966 - t / 8 - t / 512;
+    let first = (4398001211392 - 511 * t) / 2048;
+    let second = (398912494592 - 65 * t) / 512;
     let third = 275901618 - t / 64;
     first + second * square / ONE + third * fourth / ONE
 }
 
 // The guess for a = digits * 2^odd, to some 30 digits: one step of Goldschmidt's iteration from `inverse_root`.
-// The two factors are the root of 2 and its inverse where odd is 1, else both stand for one.
+// Where odd is 1, the root of 2 and its inverse are factors.
 pub(crate) fn guess_of(digits: u64, odd: u64) -> Guess
     requires { ⌜ (digits < 2 ^ 53) × (odd < 2) ⌝ }
 {

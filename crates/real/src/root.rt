@@ -11,7 +11,7 @@ ghost use Rattle.real.specs.Root.{sqrtOf};
 // The weight of an f64's leading digit, and of its exponent's field.
 const HIDDEN: u64 = 0x10_0000_0000_0000;
 
-// Half of the last digit of `last_step`, and a little more: the guess is a little low.
+// Half a unit of what `last_step` divides, and 1/256 of one, as the guess is a little low.
 const HALF: u64 = 0x40_8000_0000;
 
 // The pattern of +infinity: the patterns of the positive finite floats lie between 0 and it.
@@ -73,8 +73,8 @@ pub(crate) fn rounded_root(a: u64) -> u64
     if w.q < w.rest { w.q + 1 } else { w.q }
 }
 
-// s * 2^22 + q where that is the whole number nearest to the root of (s * s + left) * 2^44, else 0. With r for it, what r * r leaves of that number
-// is (left * 2^21 - s * q) * 2^23 - q * q; to stay above zero, both sides have 2 * (r - q) = s * 2^23 added.
+// r = s * 2^22 + q, where that is the whole number nearest to the root of (s * s + left) * 2^44, else 0. What r * r leaves,
+// (left * 2^21 - s * q) * 2^23 - q * q, must lie above -r and be at most r; s * 2^23 = 2 * r - 2 * q is added, so that nothing is below zero.
 pub(crate) fn settled(s: u64, left: u64, q: u64) -> u64
     requires { ⌜ (s < 2 ^ 31) × (left < 2 ^ 34) × (q < 2 ^ 26) ⌝ }
     ensures { λ r. ⌜ (0 < r → (r * r < (s * s + left) * 2 ^ 44 + r) × ((s * s + left) * 2 ^ 44 ≤ r * r + r)) ⌝ }
@@ -123,7 +123,7 @@ pub(crate) fn last_step(a: u64, s: u64, y: u64) -> u64
     settled(s, left, (left * y + HALF) / 0x80_0000_0000)
 }
 
-// The same from any guess: where it is not good enough, in some cases of a thousand, by the whole root.
+// The same from any guess: where it is not good enough, about 6 times in 1,000, by `rounded_root`, which would do in its place.
 pub(crate) fn nearest_root(a: u64, near: guess::Guess) -> u64
     requires { ⌜ (2 ^ 52 ≤ a) × (a + 1 < 2 ^ 54) ⌝ }
     ensures { λ r. ⌜ (r * r < a * 2 ^ 52 + r) × (a * 2 ^ 52 ≤ r * r + r) × (r < 2 ^ 53) ⌝ }

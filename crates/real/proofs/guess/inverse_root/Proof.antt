@@ -10,17 +10,17 @@ mul-square c = let p = polynomial (c .args .t) (c .pre) in omega arith
 mul-fourth : tie.Need-mul-fourth
 mul-fourth c = let p = polynomial (c .args .t) (c .pre) in omega arith
 
+mul-first : tie.Need-mul-first
+mul-first c = search needs
+
 sub-first : tie.Need-sub-first
 sub-first c = search needs
 
-add-first : tie.Need-add-first
-add-first c = search needs
+mul-second : tie.Need-mul-second
+mul-second c = search needs
 
 sub-second : tie.Need-sub-second
 sub-second c = search needs
-
-sub-second-2 : tie.Need-sub-second-2
-sub-second-2 c = search needs
 
 sub-third : tie.Need-sub-third
 sub-third c = search needs
@@ -46,10 +46,10 @@ inverse-root-spec =
     (tie.spec
     mul-square
     mul-fourth
+    mul-first
     sub-first
-    add-first
+    mul-second
     sub-second
-    sub-second-2
     sub-third
     mul-result
     add-result
