@@ -6,6 +6,7 @@ use compare::functions::{Argument, Description, Extra, Function, Shape};
 use evindrast::{
     Dual2_64, Dual3_64, Dual64, DualNum, HyperDual64, HyperHyperDual64, Refusal, supplied,
 };
+use std::cmp::Ordering::{Equal, Greater, Less};
 
 /// A record of the crate, with its `derivative` functions by their numbers.
 pub trait Port: DualNum {
@@ -63,7 +64,10 @@ fn of_one<D: Port>(function: Function, x: D, k: f64) -> Vec<u64> {
         Function::AddFloat => agreed([x + k, assigned(x, |a| *a += k)]),
         Function::SubFloat => agreed([x - k, assigned(x, |a| *a -= k)]),
         Function::Scale => parts(x.scale(&k)),
-        Function::Sign => vec![u64::from(x.is_negative()) | u64::from(x.is_positive()) << 1],
+        Function::IsNegative => truth(x.is_negative()),
+        Function::IsPositive => truth(x.is_positive()),
+        Function::IsZero => truth(x.is_zero()),
+        Function::IsOne => truth(x.is_one()),
         Function::Abs => parts(x.abs()),
         Function::Signum => parts(x.signum()),
         Function::Recip => parts(x.recip()),
@@ -119,21 +123,33 @@ fn of_two<D: Port>(function: Function, x: D, y: D) -> Vec<u64> {
         Function::Sub => agreed([x - y, x - &y, assigned(x, |a| *a -= y)]),
         Function::Mul => agreed([x * y, x * &y, assigned(x, |a| *a *= y)]),
         Function::Div => agreed([x / y, x / &y, assigned(x, |a| *a /= y)]),
-        Function::Compare => vec![compare(&x, &y)],
         Function::AbsSub => parts(x.abs_sub(&y)),
         Function::Atan2 => parts(x.atan2(y)),
         Function::Powd => parts(x.powd(y)),
-        _ => panic!("{function:?} of two records"),
+        _ => truth(compared(function, x, y)),
     }
 }
 
-/// eq 1, lt 2, le 4, gt 8, ge 16; the same against the real part as a plain float.
-fn compare<D: Port>(x: &D, y: &D) -> u64 {
-    let bits = |all: [bool; 5]| (0..5).map(|i| u64::from(all[i]) << i).sum();
+/// A comparison of two records, by its method and by `partial_cmp`; the same against the second's
+/// real part as a plain float.
+fn compared<D: Port>(function: Function, x: D, y: D) -> bool {
     let re = y.re();
-    let plain: u64 = bits([*x == re, *x < re, *x <= re, *x > re, *x >= re]);
-    assert_eq!(plain, bits([x == y, x < y, x <= y, x > y, x >= y]));
-    plain
+    let (wanted, records, plain) = match function {
+        Function::Eq => (&[Equal][..], x == y, x == re),
+        Function::Lt => (&[Less][..], x < y, x < re),
+        Function::Le => (&[Less, Equal][..], x <= y, x <= re),
+        Function::Gt => (&[Greater][..], x > y, x > re),
+        Function::Ge => (&[Greater, Equal][..], x >= y, x >= re),
+        _ => panic!("{function:?} of two records"),
+    };
+    let ordered = x.partial_cmp(&y).is_some_and(|ordering| wanted.contains(&ordering));
+    assert!(records == plain && records == ordered, "forms of a comparison differ");
+    records
+}
+
+/// 1 where it holds, else 0.
+fn truth(holds: bool) -> Vec<u64> {
+    vec![u64::from(holds)]
 }
 
 /// With these outside values, in the order of the function's extras.

@@ -11,7 +11,6 @@ use compare::requests::{Request, requests};
 use compare::supplied::{Supplied, with_supplied};
 use compare::words::{word, words};
 use evindrast::{Dual2_64, Dual3_64, Dual64, HyperDual64, HyperHyperDual64, exports};
-use num_traits::{One, Zero};
 
 /// Cases from one pool of floats, its edges first.
 const ROUND: usize = 1000;
@@ -43,7 +42,6 @@ fn kind<K: Kind, D: Port>(counts: &mut Counts, cases: usize, seed: u64) {
                 cell.case(&port, &rust, || shown(&parts, &request));
             }
         }
-        truths::<K, D>(counts, &mut random, &pool, cases);
         runs::<K, D>(counts, &mut random, &pool, cases);
     }
 }
@@ -90,20 +88,6 @@ fn record<D: Port>(parts: &[f64]) -> D {
 fn shown(parts: &[Vec<f64>], request: &Request) -> String {
     let records: Vec<String> = parts.iter().map(|p| hex(&words(p))).collect();
     format!("{}, {:?}, supplied {:?}", records.join(", "), request.argument, request.supplied)
-}
-
-/// `is_zero` and `is_one`, which the oracle's table has not.
-fn truths<K: Kind, D: Port>(counts: &mut Counts, random: &mut Random, pool: &Pool, cases: usize) {
-    let cell = counts.cell("is_zero is_one", K::NAME);
-    for i in 0..cases {
-        let first = if i < pool::EDGES.end { i as u8 } else { Pool::place(random, pool::ANY) };
-        let mut parts = drawn(random, pool, K::PARTS, 30);
-        parts[0] = pool.0[usize::from(first)];
-        let (x, y) = (record::<D>(&parts), K::Record::<f64>::of(&parts));
-        let port = Ok(vec![u64::from(x.is_zero()), u64::from(x.is_one())]);
-        let rust = Ok(vec![u64::from(y.is_zero()), u64::from(y.is_one())]);
-        cell.case(&port, &rust, || hex(&words(&parts)));
-    }
 }
 
 fn runs<K: Kind, D: Port>(counts: &mut Counts, random: &mut Random, pool: &Pool, cases: usize) {

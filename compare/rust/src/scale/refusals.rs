@@ -212,12 +212,10 @@ fn parts(kind: u32) -> Option<usize> {
 fn lengths(kind: u32, function: u32) -> Option<[usize; 3]> {
     let parts = parts(kind)?;
     match function {
-        0x03 | 0x13 | 0x14 => None,
+        0x03 => None,
         0x05 if kind > 3 => None,
         0x06 | 0x07 if kind < 4 => None,
         0x08 if kind < 5 => None,
-        0x3b..=0x3f => Some([2 * parts, 0, 1]),
-        0x40..=0x43 => Some([parts, 0, 1]),
         _ => {
             let known = FUNCTIONS.iter().find(|d| d.function as u32 == function)?;
             let floats = known.extras.iter().filter(|extra| **extra != Extra::Exponent).count();
