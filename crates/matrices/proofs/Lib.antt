@@ -7,8 +7,9 @@ pub mod Odd
 pub mod Places
 -- LU: its columns case by case
 pub mod Lu
--- the order: permutations and parity
+-- the order: permutations and parity, and their tests in one pass
 pub mod Permutation
+mod Marks
 pub mod Parity
 -- slopes never steer
 pub mod Slopes

@@ -33,7 +33,7 @@ all-at P [] q h a = absurd (omega arith)
 all-at P (y ∷ l) zero h a = a .0
 all-at P (y ∷ l) (suc q) h a = all-at P l q (omega arith) (a .1)
 
-all-map : (P Q : ℕ → Type 0) → ((v : ℕ) → P v → Q v) → (l : List ℕ) → All P l → All Q l
+pub all-map : (P Q : ℕ → Type 0) → ((v : ℕ) → P v → Q v) → (l : List ℕ) → All P l → All Q l
 all-map P Q f [] a = tt
 all-map P Q f (y ∷ l) a = (f y (a .0), all-map P Q f l (a .1))
 

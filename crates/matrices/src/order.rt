@@ -1,10 +1,10 @@
 // The order of the rows: numbered, cleared, exchanged, and the tests that a lent one is put to.
 ghost use mathlib.Core.Path.{_≡_};
 ghost use Prim.Native.Nat.{ℕ, _<_, _≤_};
-ghost use lib.ListN.{length, replicate, drop};
+ghost use lib.ListN.{length, replicate};
 ghost use Rattle.matrices.specs.Matrix.{exchange};
 ghost use Rattle.matrices.specs.Lu.{numbers};
-ghost use Rattle.matrices.specs.Order.{absent, isOrder, differ, oddBelow, parity};
+ghost use Rattle.matrices.specs.Order.{All, isOrder, differ, parity};
 
 // 0, 1, .., one an entry.
 pub fn number(order: &mut [usize])
@@ -38,34 +38,22 @@ pub fn exchange(order: &mut [usize], p: usize, q: usize)
     order[q] = x;
 }
 
-// x stands nowhere in the order from the entry `from` on.
-fn is_absent(order: &[usize], x: usize, from: usize) -> bool
-    requires { ⌜ from ≤ length (now order) ⌝ }
-    ensures { λ r. ⌜ r ≡ absent x (drop from (now (order .entry))) ⌝ }
-{
-    let mut k = from;
-    while k < order.len() {
-        if x == order[k] {
-            return false;
-        }
-        k += 1;
-    }
-    true
-}
-
-// Every number is below n, and no two are equal.
+// Every number is below n, and no two are equal. Bit x of `seen`: whether x has come already.
 pub fn is_order(n: usize, order: &[usize]) -> bool
+    requires { ⌜ n ≤ 32 ⌝ }
     ensures { λ r. ⌜ r ≡ isOrder n (now (order .entry)) ⌝ }
 {
+    let mut seen = 0u64;
     let mut i = 0;
     while i < order.len() {
         let x = order[i];
         if x >= n {
             return false;
         }
-        if !is_absent(order, x, i + 1) {
+        if (seen >> x) % 2 == 1 {
             return false;
         }
+        seen = seen | (1 << x);
         i += 1;
     }
     true
@@ -78,28 +66,19 @@ pub fn differs(t: bool, b: bool) -> bool
     if t { !b } else { b }
 }
 
-// Whether an odd number of entries from `from` on are below x.
-fn odd_below(order: &[usize], x: usize, from: usize) -> bool
-    requires { ⌜ from ≤ length (now order) ⌝ }
-    ensures { λ r. ⌜ r ≡ oddBelow x (drop from (now (order .entry))) ⌝ }
-{
-    let mut odd = false;
-    let mut k = from;
-    while k < order.len() {
-        odd = differs(order[k] < x, odd);
-        k += 1;
-    }
-    odd
-}
-
 // The order's parity: whether an odd number of pairs stand the wrong way round.
+// Bit x of `above`: whether an odd number of those that have come are above x.
 pub fn is_odd(order: &[usize]) -> bool
+    requires { ⌜ All (λ v. v < 32) (now order) ⌝ }
     ensures { λ r. ⌜ r ≡ parity (now (order .entry)) ⌝ }
 {
+    let mut above = 0u64;
     let mut odd = false;
     let mut i = 0;
     while i < order.len() {
-        odd = differs(odd_below(order, order[i], i + 1), odd);
+        let x = order[i];
+        odd = differs((above >> x) % 2 == 1, odd);
+        above = above ^ ((1 << x) - 1);
         i += 1;
     }
     odd

@@ -2,6 +2,7 @@
 use super::order;
 ghost use mathlib.Core.Path.{_≡_};
 ghost use Prim.Native.Nat.{ℕ, _<_, _≤_};
+ghost use Rattle.matrices.specs.Order.{All};
 ghost use Rattle.matrices.specs.Entries.{luRefusal, orderRefusal, solveRefusal, inverseRefusal, swapsRefusal, determinantRefusal};
 
 // Of LU, by the lengths that are lent.
@@ -27,6 +28,7 @@ pub fn lu(w: usize, n: usize, a: usize, factors: usize, order: usize) -> u32
 
 // Of an order as long as it must be.
 fn not_an_order(n: usize, order: &[usize]) -> u32
+    requires { ⌜ n ≤ 32 ⌝ }
     ensures { λ r. ⌜ r ≡ orderRefusal n (now (order .entry)) ⌝ }
 {
     if order::is_order(n, order) {
@@ -82,6 +84,7 @@ pub fn inverse(w: usize, n: usize, factors: usize, order: &[usize], out: usize) 
 
 // Of a swap count beside an order.
 fn wrong_swaps(order: &[usize], swaps: usize) -> u32
+    requires { ⌜ All (λ v. v < 32) (now order) ⌝ }
     ensures { λ r. ⌜ r ≡ swapsRefusal (now (order .entry)) swaps ⌝ }
 {
     if 32 < swaps {

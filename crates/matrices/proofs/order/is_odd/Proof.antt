@@ -1,38 +1,52 @@
 use mathlib.Core.Path.{_≡_, refl, sym, ap, _∙_}
-use Prim.Native.Nat.{_≤_, _-_, _+_}
+use Prim.Native.Nat.{ℕ, _≤_, _-_, _+_, _<_, _^_}
 use denote.Ref.{now}
-use mathlib.Core.Bool.{Bool}
+use mathlib.Core.List.{List}
+use lib.Bits.{bitXor}
 use lib.ListN.{length, getD, drop}
+use lib.Pow.{pow-pos}
 use borrow.Author.Needs.{needs}
 use native.Mathlib.Omega.{arith}
-use Rattle.matrices.specs.Order.{differ, oddBelow, parity}
-use Rattle.matrices.proofs.Rest.{rest-turn, rest-end, differ-turn, differ-false}
+use Rattle.matrices.specs.Order.{differ, parity}
+use Rattle.matrices.proofs.Marks.{one-shifted, parityLeft, parity-start, parity-end, parity-turn}
+use Rattle.matrices.proofs.Permutation.{all-at}
+use Rattle.matrices.proofs.Rest.{rest-turn, rest-end, differ-false}
 use Rattle.matrices.proofs.order.is_odd.Statement.{statement}
 use Rattle.matrices.proofs.order.is_odd.Tie as tie
 
 abbrev Inv-loop : tie.InvT-loop
-Inv-loop order odd₀ i₀ odd i = (i ≤ length order) × (differ odd (parity (drop i order)) ≡ parity order)
+Inv-loop order above₀ odd₀ i₀ above odd i = (i ≤ length order) × (differ odd (parityLeft above (drop i order)) ≡ parity order)
 
 abbrev μ-loop : tie.MeasureT-loop
-μ-loop order odd₀ i₀ odd i = length order - i
+μ-loop order above₀ odd₀ i₀ above odd i = length order - i
+
+-- an entry has a bit of the word
+known : (c : tie.In-loop Inv-loop μ-loop) → getD (now (c .before .before .before .args .order)) (c .before .loop .i) 0 < 64
+known c = let s = c .before .before .before in omega (arith, all-at (λ v. v < 32) (now (s .args .order)) (c .before .loop .i) (c .loop-test .taken) (s .pre))
 
 loop-holds : tie.Need-loop-holds Inv-loop μ-loop
-loop-holds c = (omega arith, refl)
+loop-holds c = (omega arith, parity-start _)
 
-mul-odd-below : tie.Need-mul-odd-below Inv-loop μ-loop
-mul-odd-below c = search needs
+mul-x : tie.Need-mul-x Inv-loop μ-loop
+mul-x c = search needs
 
-shared-slice-read-odd-below : tie.Need-shared-slice-read-odd-below Inv-loop μ-loop
-shared-slice-read-odd-below c = search needs
+shared-slice-read-x : tie.Need-shared-slice-read-x Inv-loop μ-loop
+shared-slice-read-x c = search needs
 
-add-odd-below : tie.Need-add-odd-below Inv-loop μ-loop
-add-odd-below c = search needs
-
-odd-below-requires : tie.Need-odd-below-requires Inv-loop μ-loop
-odd-below-requires c κs = search needs
+shr-differs : tie.Need-shr-differs Inv-loop μ-loop
+shr-differs c = known (c .before)
 
 differs-requires : tie.Need-differs-requires Inv-loop μ-loop
 differs-requires c κs = search needs
+
+shl-above : tie.Need-shl-above Inv-loop μ-loop
+shl-above c = known (c .before .before)
+
+sub-above : tie.Need-sub-above Inv-loop μ-loop
+sub-above c =
+    let at = c .before .before in
+    let x = getD (now (at .before .before .before .args .order)) (at .before .loop .i) 0 in
+    omega (arith, one-shifted x (known at), pow-pos x)
 
 add-i : tie.Need-add-i Inv-loop μ-loop
 add-i c = search needs
@@ -41,25 +55,26 @@ loop-less : tie.Need-loop-less Inv-loop μ-loop
 loop-less c = search needs
 
 loop-again : tie.Need-loop-again Inv-loop μ-loop
-unfolding parity
 loop-again c =
-    let at = c .before .before .before .before in
-    let s = at .before .before .args in
-    let l = now (s .order) in
-    let i = at .loop .i in (
+    let test = c .before .before in
+    let at = test .before in
+    let l = now (at .before .before .args .order) in
+    let i = at .loop .i in
+    let x = getD l i 0 in (
       omega arith,
-      ap (λ (t : Bool). differ t (parity (drop (i + 1) l))) (c .differs .ensures ∙ ap (λ (t : Bool). differ t (at .loop .odd)) (c .before .odd-below .ensures))
-          ∙ differ-turn (oddBelow (getD l i 0) (drop (i + 1) l)) (at .loop .odd) (parity (drop (i + 1) l))
-          ∙ ap (differ (at .loop .odd)) (sym (ap parity (rest-turn l i (c .before .before .before .loop-test .taken))))
+      (λ t. differ (c .differs .ensures t) (parityLeft (bitXor (at .loop .above) (one-shifted x (known test) t - 1)) (drop (i + 1) l)))
+          ∙ parity-turn (at .loop .above) x (drop (i + 1) l) (at .loop .odd)
+          ∙ ap (λ (m : List ℕ). differ (at .loop .odd) (parityLeft (at .loop .above) m)) (sym (rest-turn l i (test .loop-test .taken)))
           ∙ at .loop .inv .1,
     )
 
 returns : tie.Need-returns Inv-loop μ-loop
-unfolding parity
 returns c =
     let at = c .before in
-    let s = at .before .before .args in
-    sym (differ-false (at .loop .odd)) ∙ ap (differ (at .loop .odd)) (sym (ap parity (rest-end (now (s .order)) (at .loop .i) (c .loop-test .left)))) ∙ at .loop .inv .1
+    let l = now (at .before .before .args .order) in
+    sym (differ-false (at .loop .odd))
+    ∙ ap (differ (at .loop .odd)) (sym (ap (parityLeft (at .loop .above)) (rest-end l (at .loop .i) (c .loop-test .left)) ∙ parity-end (at .loop .above)))
+    ∙ at .loop .inv .1
 
 pub is-odd-spec : {M : Type 1} → statement M
 is-odd-spec =
@@ -68,11 +83,12 @@ is-odd-spec =
     Inv-loop
     μ-loop
     loop-holds
-    mul-odd-below
-    shared-slice-read-odd-below
-    add-odd-below
-    odd-below-requires
+    mul-x
+    shared-slice-read-x
+    shr-differs
     differs-requires
+    shl-above
+    sub-above
     add-i
     loop-less
     loop-again
