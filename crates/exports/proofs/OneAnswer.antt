@@ -20,6 +20,14 @@ use Rattle.exports.proofs.linalg.evindrast_inverse.Kinds as inverse-k
 use Rattle.exports.proofs.linalg.evindrast_inverse.Reads as inverse-r
 use Rattle.exports.proofs.linalg.evindrast_jacobi_eigenvalue.Kinds as jacobi-k
 use Rattle.exports.proofs.linalg.evindrast_jacobi_eigenvalue.Reads as jacobi-r
+use Rattle.exports.proofs.hyperdual_linalg.evindrast_hyperdual_lu.Kinds as hyper-lu-k
+use Rattle.exports.proofs.hyperdual_linalg.evindrast_hyperdual_lu.Reads as hyper-lu-r
+use Rattle.exports.proofs.hyperdual_linalg.evindrast_hyperdual_solve.Kinds as hyper-solve-k
+use Rattle.exports.proofs.hyperdual_linalg.evindrast_hyperdual_solve.Reads as hyper-solve-r
+use Rattle.exports.proofs.hyperdual_linalg.evindrast_hyperdual_determinant.Kinds as hyper-determinant-k
+use Rattle.exports.proofs.hyperdual_linalg.evindrast_hyperdual_determinant.Reads as hyper-determinant-r
+use Rattle.exports.proofs.hyperdual_linalg.evindrast_hyperdual_inverse.Kinds as hyper-inverse-k
+use Rattle.exports.proofs.hyperdual_linalg.evindrast_hyperdual_inverse.Reads as hyper-inverse-r
 
 -- the parts of what crosses
 first : {A B : Type 0} {x y : A × B} → x ≡ y → x .0 ≡ y .0
@@ -67,4 +75,35 @@ jacobi-only κs a x y v w h p q =
     let e = p ∙ sym q in (
       first e,
       λ i. atExit (endedOf 4 jacobi-k.ps jacobi-k.r) κs a (v .0, (v .1 .0, (v .1 .1 .0, (first (rest (rest e)) i, (rest (rest (rest e)) i, (first (rest e) i, tt)))))),
+    )
+
+-- over `HyperDual`
+
+pub hyper-lu-only : Only 4 hyper-lu-k.ps hyper-lu-k.r hyper-lu-r.Pre hyper-lu-r.Post
+hyper-lu-only κs a x y v w h p q =
+    let e = p ∙ sym q in (
+      first e,
+      λ i. atExit (endedOf 4 hyper-lu-k.ps hyper-lu-k.r) κs a (v .0, (v .1 .0, (first (rest (rest e)) i, (rest (rest (rest e)) i, (first (rest e) i, tt))))),
+    )
+
+pub hyper-solve-only : Only 4 hyper-solve-k.ps hyper-solve-k.r hyper-solve-r.Pre hyper-solve-r.Post
+hyper-solve-only κs a x y v w h p q =
+    let e = p ∙ sym q in (
+      first e,
+      λ i. atExit (endedOf 4 hyper-solve-k.ps hyper-solve-k.r) κs a (v .0, (v .1 .0, (v .1 .1 .0, (v .1 .1 .1 .0, (rest e i, tt))))),
+    )
+
+pub hyper-determinant-only : Only 6 hyper-determinant-k.ps hyper-determinant-k.r hyper-determinant-r.Pre hyper-determinant-r.Post
+hyper-determinant-only κs a x y v w h p q =
+    let e = p ∙ sym q in
+    let slopes = rest (rest e) in (
+      first e,
+      λ i. atExit (endedOf 6 hyper-determinant-k.ps hyper-determinant-k.r) κs a (v .0, (v .1 .0, (v .1 .1 .0, (v .1 .1 .1 .0, (first (rest e) i, (first slopes i, (first (rest slopes) i, (rest (rest slopes) i, tt)))))))),
+    )
+
+pub hyper-inverse-only : Only 3 hyper-inverse-k.ps hyper-inverse-k.r hyper-inverse-r.Pre hyper-inverse-r.Post
+hyper-inverse-only κs a x y v w h p q =
+    let e = p ∙ sym q in (
+      first e,
+      λ i. atExit (endedOf 3 hyper-inverse-k.ps hyper-inverse-k.r) κs a (v .0, (v .1 .0, (v .1 .1 .0, (rest e i, tt)))),
     )

@@ -6,6 +6,7 @@ use lib.Dec.{eqb}
 use lib.Ieee.{Float}
 use Rattle.algebra.specs.Outcome.{Outcome, value, refused, numberOf}
 use Rattle.dual.specs.declared.Dual.{Dual}
+use Rattle.hyperdual.specs.declared.HyperDual.{HyperDual}
 use Rattle.matrices.specs.Entries.{LuLeft, SolveLeft}
 use Rattle.jacobi.specs.Entry.{JacobiLeft}
 
@@ -27,10 +28,14 @@ luNumbered before l = (numberOf (l .answer), (besideOf before (l .answer) (l .co
 abbrev pub solveNumbered : SolveLeft → ℕ × List Float
 solveNumbered l = (numberOf (l .answer), l .result)
 
--- the determinant: the number, then both parts, as they were where it is refused
+-- the determinant: the number, then its parts, as they were where it is refused
 abbrev pub determinantNumbered : Float → Float → Outcome Dual → ℕ × (Float × Float)
 determinantNumbered re eps (value x) = (0, (x .re, x .eps))
 determinantNumbered re eps (refused number) = (number, (re, eps))
+
+abbrev pub hyperDualDeterminantNumbered : Float → Float → Float → Float → Outcome HyperDual → ℕ × (Float × (Float × (Float × Float)))
+hyperDualDeterminantNumbered re eps1 eps2 eps1eps2 (value x) = (0, (x .re, (x .eps1, (x .eps2, x .eps1eps2))))
+hyperDualDeterminantNumbered re eps1 eps2 eps1eps2 (refused number) = (number, (re, (eps1, (eps2, eps1eps2))))
 
 -- Jacobi: the number, the sweeps, the values, the vectors
 abbrev pub jacobiNumbered : ℕ → JacobiLeft → ℕ × (ℕ × (List Float × List Float))

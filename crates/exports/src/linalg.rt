@@ -12,7 +12,7 @@ ghost use Rattle.matrices.specs.Answers.{solveOutcome};
 ghost use Rattle.exports.specs.Numbered.{luNumbered, solveNumbered, determinantNumbered, jacobiNumbered};
 
 // The number of an answer of solve or inverse.
-fn solve_number(answer: SolveAnswer) -> u32
+pub(crate) fn solve_number(answer: SolveAnswer) -> u32
     ensures { λ r. ⌜ r ≡ numberOf (solveOutcome answer) ⌝ }
 {
     match answer {

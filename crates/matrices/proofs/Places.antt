@@ -47,6 +47,10 @@ row-of w n i l s h =
     let b : i ≤ 32 = omega arith in
     record { small = z; below = h; start = mul-le-mul b z; whole = omega (arith, mul-le-mul-right w (row-place n i h), s .full) }
 
+-- and of floats of the same length
+pub row-kept : (w n i : ℕ) (l l′ : List Float) → Square w n l → length l′ ≡ length l → i < n → Row w n i l′
+row-kept w n i l l′ s e h = row-of w n i l′ (record { small = s .small; some = s .some; narrow = s .narrow; full = e ∙ s .full }) h
+
 -- row r lies whole in the floats
 pub row-inside : (w n : ℕ) (l : List Float) (r : ℕ) → Square w n l → r < n → r * (n * w) + n * w ≤ length l
 row-inside w n l r s h =
@@ -98,3 +102,10 @@ strided-whole w n l e = record { some = omega arith; inside = λ i h. let p : i 
 -- column j of a square matrix
 pub strided-column : (w n j : ℕ) (l : List Float) → Square w n l → j < n → Strided w n n j l
 strided-column w n j l s h = record { some = omega arith; inside = λ i b. inside w n i j l s b h .there }
+
+-- the same in floats of the same length: an element's place, all of a vector
+pub strided-place : (w n stride base i : ℕ) (l l′ : List Float) → Strided w n stride base l → length l′ ≡ length l → i < n → (i * stride + base) * w + w ≤ length l′
+strided-place w n stride base i l l′ s e h = omega (arith, s .inside i h, e)
+
+pub whole-kept : (w n : ℕ) (l l′ : List Float) → length l ≡ n * w → length l′ ≡ length l → Strided w n 1 0 l′
+whole-kept w n l l′ e f = strided-whole w n l′ (f ∙ e)

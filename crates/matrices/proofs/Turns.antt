@@ -97,6 +97,9 @@ module _ {R : Type 0} {A : Algebra R} {L : Layout R} (Q : Laws A L) where
         rest = upto-turn k n (subtract A n i j) (decode L a) (decode L a′) h e (r .rest);
       }
 
+  pub subtract-end : (n : ℕ) (a₀ : List Float) (i j : ℕ) (x : R) (a : List Float) (k : ℕ) → Subtracting n a₀ i j x a k → n ≤ k → decode L a ≡ upto (i + 1) n (subtract A n i j) (decode L a₀)
+  subtract-end n a₀ i j x a k r h = upto-end k n (subtract A n i j) (decode L a) h (r .rest)
+
   -- the multiplier is stored, and is what stands there
   pub multiplier-stored : (n i j : ℕ) (a a′ : List Float) (x : R) → Row (L .width) n j a → i < n → decode L a′ ≡ set (decode L a) (j * n + i) x → cell A n (decode L a′) j i ≡ x
   unfolding store
@@ -111,6 +114,14 @@ module _ {R : Type 0} {A : Algebra R} {L : Layout R} (Q : Laws A L) where
   unfolding reduceRow store cell
   reduced n i j a a′ a″ u v x eu ev ex es er =
       er ∙ ap (upto (i + 1) n (subtract A n i j)) (es ∙ ap (set (decode L a) (j * n + i)) (ex ∙ (λ t. A .div (eu t) (ev t))))
+
+  -- every row below i
+  abbrev pub Reducing : ℕ → List Float → ℕ → List Float → ℕ → Type 0
+  Reducing n a₀ i a j = Running (reduceRow A n i) n a₀ a j (reduce A n i (decode L a₀))
+
+  pub reducing : (n : ℕ) (a : List Float) (i : ℕ) → Reducing n a i a (i + 1)
+  unfolding reduce
+  reducing n a i = record { size = refl; rest = refl }
 
   -- ---- a column: what the pivot's search left, then the rows below
 
@@ -161,7 +172,21 @@ module _ {R : Type 0} {A : Algebra R} {L : Layout R} (Q : Laws A L) where
   pub columns-end : (n : ℕ) (a₀ a : List Float) (order₀ order : List ℕ) (swaps i : ℕ) → Columns n a₀ a order₀ order swaps i → n ≤ i → luOf A n (decode L a₀) ≡ going (decode L a) order swaps
   columns-end n a₀ a order₀ order swaps i c h = sym (upto-end i n (column A n) (going (decode L a) order swaps) h (c .rest))
 
-  -- ---- the determinant: negated where the count is odd
+  -- ---- the determinant: the product of the diagonal, negated where the count is odd
+
+  abbrev pub Multiplying : ℕ → List Float → R → ℕ → Type 0
+  Multiplying n a x i = upto i n (λ k y. A .mul y (cell A n (decode L a) k k)) x ≡ diagonal A n (decode L a)
+
+  pub multiplying : (n : ℕ) (a : List Float) → Multiplying n a (oneOf A) 0
+  unfolding diagonal
+  multiplying n a = refl
+
+  pub multiply-turn : (n : ℕ) (a : List Float) (x u y : R) (i : ℕ) → Multiplying n a x i → i < n → u ≡ getD (decode L a) (i * n + i) (zeroOf A) → y ≡ A .mul x u → Multiplying n a y (i + 1)
+  unfolding cell
+  multiply-turn n a x u y i m h eu ey = upto-turn i n _ x y h (ey ∙ ap (A .mul x) eu) m
+
+  pub multiply-end : (n : ℕ) (a : List Float) (x : R) (i : ℕ) → Multiplying n a x i → n ≤ i → x ≡ diagonal A n (decode L a)
+  multiply-end n a x i m h = upto-end i n _ x h m
 
   pub determinant-odd : (n : ℕ) (a : List Float) (swaps : ℕ) (x y : R) → swaps % 2 ≡ 1 → x ≡ diagonal A n (decode L a) → y ≡ A .neg x → y ≡ determinantOf A n (decode L a) swaps
   unfolding determinantOf
@@ -207,6 +232,37 @@ module _ {R : Type 0} {A : Algebra R} {L : Layout R} (Q : Laws A L) where
       e ∙ ap (set (decode L x) (i * stride + base)) (ey ∙ (λ t. A .div ((er ∙ ap (upto (i + 1) n (less A n (decode L a) stride base i (decode L x))) eu) t) (ev t)))
       ∙ sym (backRow-by A n (decode L a) stride base (s .some) (decode L x) i (held x (i * stride + base) h))
 
+  -- the products of a row, taken from r
+  abbrev pub Lessening : ℕ → List Float → List Float → ℕ → ℕ → ℕ → ℕ → ℕ → R → R → ℕ → Type 0
+  Lessening n a x stride base i lo hi r₀ r k = upto k hi (less A n (decode L a) stride base i (decode L x)) r ≡ upto lo hi (less A n (decode L a) stride base i (decode L x)) r₀
+
+  pub lessening : (n : ℕ) (a x : List Float) (stride base i lo hi : ℕ) (r : R) → Lessening n a x stride base i lo hi r r lo
+  lessening n a x stride base i lo hi r = refl
+
+  pub less-turn : (n : ℕ) (a x : List Float) (stride base i lo hi : ℕ) (r₀ r r′ : R) (k : ℕ) → Lessening n a x stride base i lo hi r₀ r k → k < hi
+      → r′ ≡ A .sub r (A .mul (getD (decode L a) (i * n + k) (zeroOf A)) (getD (decode L x) (k * stride + base) (zeroOf A))) → Lessening n a x stride base i lo hi r₀ r′ (k + 1)
+  unfolding less cell
+  less-turn n a x stride base i lo hi r₀ r r′ k m h e = upto-turn k hi _ r r′ h e m
+
+  pub less-end : (n : ℕ) (a x : List Float) (stride base i lo hi : ℕ) (r₀ r : R) (k : ℕ) → Lessening n a x stride base i lo hi r₀ r k → hi ≤ k
+      → r ≡ upto lo hi (less A n (decode L a) stride base i (decode L x)) r₀
+  less-end n a x stride base i lo hi r₀ r k m h = upto-end k hi _ r h m
+
+  -- every element, from the first on and from the last back
+  abbrev pub Forwarding : ℕ → List Float → List Float → ℕ → ℕ → List Float → ℕ → Type 0
+  Forwarding n a x₀ stride base x i = Running (λ k. upto 0 k (eliminate A n (decode L a) stride base k)) n x₀ x i (forwardFrom A n (decode L a) stride base (decode L x₀))
+
+  pub forwarding : (n : ℕ) (a x : List Float) (stride base : ℕ) → Forwarding n a x stride base x 0
+  unfolding forwardFrom
+  forwarding n a x stride base = record { size = refl; rest = refl }
+
+  abbrev pub Backing : ℕ → List Float → List Float → ℕ → ℕ → List Float → ℕ → Type 0
+  Backing n a x₀ stride base x t = Running (λ k. backRow A n (decode L a) stride base (n - 1 - k)) n x₀ x t (back A n (decode L a) stride base (decode L x₀))
+
+  pub backing : (n : ℕ) (a x : List Float) (stride base : ℕ) → Backing n a x stride base x 0
+  unfolding back
+  backing n a x stride base = record { size = refl; rest = refl }
+
   -- forward, then back
   pub substituted : (n stride base : ℕ) (a x x′ x″ : List Float) → decode L x′ ≡ forwardFrom A n (decode L a) stride base (decode L x) → decode L x″ ≡ back A n (decode L a) stride base (decode L x′)
       → decode L x″ ≡ substituteFrom A n (decode L a) stride base (decode L x)
@@ -214,6 +270,9 @@ module _ {R : Type 0} {A : Algebra R} {L : Layout R} (Q : Laws A L) where
   substituted n stride base a x x′ x″ e f = f ∙ ap (back A n (decode L a) stride base) e
 
   -- ---- solve: the starts written, then the run
+
+  abbrev pub startOf : List ℕ → List Float → ℕ → R
+  startOf p b k = getD (decode L b) (getD p k 0) (zeroOf A)
 
   -- before element i: those below it hold their starts
   pub record Starting (f : ℕ → R) (x₀ x : List Float) (i : ℕ) : Type 0 where
@@ -235,30 +294,35 @@ module _ {R : Type 0} {A : Algebra R} {L : Layout R} (Q : Laws A L) where
       let k = holds x n (t .size ∙ z) in
       filled-all (zeroOf A) f (decode L x) (tabulate f n 0) i (omega arith) (k ∙ sym (tabulate-length f n 0)) (t .filled) (λ j b. tabulate-at f n 0 j (zeroOf A) (omega arith) ∙ ap f (omega arith))
 
-  pub solved : (n : ℕ) (a b x′ x″ : List Float) (p : List ℕ) → decode L x′ ≡ tabulate (λ k. getD (decode L b) (getD p k 0) (zeroOf A)) n 0 → decode L x″ ≡ substituteFrom A n (decode L a) 1 0 (decode L x′)
+  pub solved : (n : ℕ) (a b x′ x″ : List Float) (p : List ℕ) → decode L x′ ≡ tabulate (startOf p b) n 0 → decode L x″ ≡ substituteFrom A n (decode L a) 1 0 (decode L x′)
       → decode L x″ ≡ solveOf A n (decode L a) p (decode L b)
   solved n a b x′ x″ p e f = f ∙ ap (substituteFrom A n (decode L a) 1 0) e ∙ sym (solve-by A n (decode L a) p (decode L b))
 
   -- ---- inverse: the ones and zeros written, then a run down each column
 
   -- the one of row i
-  abbrev pub oneInRow : ℕ → List ℕ → ℕ → List R → List R
+  abbrev oneInRow : ℕ → List ℕ → ℕ → List R → List R
   oneInRow n p i x = store A n x i (getD p i 0) (oneOf A)
 
-  pub ones-start : (n : ℕ) (p : List ℕ) (x x₁ : List Float) → Square (L .width) n x → x₁ ≡ replicate (length x) float.zero → Running (oneInRow n p) n x₁ x₁ 0 (units A n p)
+  abbrev pub Ones : ℕ → List ℕ → List Float → List Float → ℕ → Type 0
+  Ones n p x₀ x i = Running (oneInRow n p) n x₀ x i (units A n p)
+
+  pub ones-start : (n : ℕ) (p : List ℕ) (x x₁ : List Float) → Square (L .width) n x → x₁ ≡ replicate (length x) float.zero → Ones n p x₁ x₁ 0
   unfolding units
   ones-start n p x x₁ s e = record {
     size = refl;
     rest = ap (λ (l : List R). upto 0 n (oneInRow n p) l) (ap (decode L) (e ∙ ap (λ (k : ℕ). replicate k float.zero) (s .full)) ∙ decode-blank L (Q .lawful) A (Q .agrees) (n * n));
   }
 
-  pub ones-turn : (n : ℕ) (p : List ℕ) (x₀ x x′ : List Float) (i : ℕ) → Running (oneInRow n p) n x₀ x i (units A n p) → i < n → length x′ ≡ length x → decode L x′ ≡ set (decode L x) (i * n + getD p i 0) (oneOf A)
-      → Running (oneInRow n p) n x₀ x′ (i + 1) (units A n p)
+  pub ones-turn : (n : ℕ) (p : List ℕ) (x₀ x x′ : List Float) (i : ℕ) → Ones n p x₀ x i → i < n → length x′ ≡ length x → decode L x′ ≡ set (decode L x) (i * n + getD p i 0) (oneOf A)
+      → Ones n p x₀ x′ (i + 1)
   unfolding store
   ones-turn n p x₀ x x′ i r h s e = run-turn (oneInRow n p) n x₀ x x′ i (units A n p) r h s e
 
-  pub inverse-start : (n : ℕ) (a : List Float) (p : List ℕ) (x : List Float) → Order n p → decode L x ≡ units A n p
-      → Running (λ j. substituteFrom A n (decode L a) n j) n x x 0 (inverseOf A n (decode L a) p)
+  abbrev pub Inverting : ℕ → List Float → List ℕ → List Float → List Float → ℕ → Type 0
+  Inverting n a p x₀ x j = Running (λ k. substituteFrom A n (decode L a) n k) n x₀ x j (inverseOf A n (decode L a) p)
+
+  pub inverse-start : (n : ℕ) (a : List Float) (p : List ℕ) (x : List Float) → Order n p → decode L x ≡ units A n p → Inverting n a p x x 0
   inverse-start n a p x o e = record { size = refl; rest = ap (upto 0 n (λ j. substituteFrom A n (decode L a) n j)) e ∙ sym (inverse-by A n (decode L a) p o) }
 
   -- ---- the entries: what a refusal's number 0 allows, and what is then answered

@@ -40,7 +40,7 @@ pub fn exchange(order: &mut [usize], p: usize, q: usize)
 
 // Every number is below n, and no two are equal. Bit x of `seen`: whether x has come already.
 pub fn is_order(n: usize, order: &[usize]) -> bool
-    requires { ⌜ n ≤ 64 ⌝ }
+    requires { ⌜ n ≤ 32 ⌝ }
     ensures { λ r. ⌜ r ≡ isOrder n (now (order .entry)) ⌝ }
 {
     let mut seen = 0u64;
@@ -69,7 +69,7 @@ pub fn differs(t: bool, b: bool) -> bool
 // The order's parity: whether an odd number of pairs stand the wrong way round.
 // Bit x of `above`: whether an odd number of those that have come are above x.
 pub fn is_odd(order: &[usize]) -> bool
-    requires { ⌜ All (λ v. v < 64) (now order) ⌝ }
+    requires { ⌜ All (λ v. v < 32) (now order) ⌝ }
     ensures { λ r. ⌜ r ≡ parity (now (order .entry)) ⌝ }
 {
     let mut above = 0u64;

@@ -84,7 +84,7 @@ pub fn inverse(w: usize, n: usize, factors: usize, order: &[usize], out: usize) 
 
 // Of a swap count beside an order.
 fn wrong_swaps(order: &[usize], swaps: usize) -> u32
-    requires { ⌜ All (λ v. v < 64) (now order) ⌝ }
+    requires { ⌜ All (λ v. v < 32) (now order) ⌝ }
     ensures { λ r. ⌜ r ≡ swapsRefusal (now (order .entry)) swaps ⌝ }
 {
     if 32 < swaps {

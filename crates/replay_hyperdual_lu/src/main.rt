@@ -3,7 +3,7 @@ mod entries;
 
 use replay::Place;
 use replay::Tally;
-use replay::matrices;
+use replay::matrices as data;
 use replay::matrices::Compared;
 
 // One case of the entry that a file is of, in buffers of the lengths of n: 0 lu, 1 solve, 2 determinant, 3 inverse.
@@ -29,13 +29,13 @@ fn case_of(
 
 // One case, in buffers full of what must not stay.
 fn case(entry: u8, file: i32, buffer: &mut [u8; 4096], place: Place) -> Compared {
-    let size = matrices::read_size(file, buffer, place);
+    let size = data::read_size(file, buffer, place);
     let place = size.place;
     if !size.known {
         return Compared { place, same: false };
     }
     let n = size.n;
-    let full = matrices::floats_of(n) * 2;
+    let full = data::floats_of(n) * 2;
     let wide = n * 4;
     let mut matrix = [7.0f64; 4096];
     let mut order = [7usize; 32];

@@ -4,7 +4,7 @@ use dual::DualAnswer;
 use dual_lu::LuAnswer;
 use dual_lu::SolveAnswer;
 use replay::Place;
-use replay::matrices;
+use replay::matrices as data;
 use replay::matrices::Compared;
 
 // What LU answers, as two numbers: document 01's, and the swap count or the column.
@@ -39,10 +39,10 @@ pub(crate) fn lu(
     let place = number.place;
     let beside = replay::next_word(file, buffer, place);
     let place = beside.place;
-    let place = matrices::read_floats(file, buffer, place, a);
+    let place = data::read_floats(file, buffer, place, a);
     let got = numbers_of(dual_lu::lu(n, a, factors, order));
     let agree = got.number == number.word && got.beside == beside.word;
-    let rest = matrices::same_factors(file, buffer, place, number.word, factors, order);
+    let rest = data::same_factors(file, buffer, place, number.word, factors, order);
     let place = rest.place;
     Compared {
         place,
@@ -60,11 +60,11 @@ pub(crate) fn solve(
     b: &mut [f64],
     x: &mut [f64],
 ) -> Compared {
-    let place = matrices::read_factors(file, buffer, place, factors, order);
-    let place = matrices::read_floats(file, buffer, place, b);
+    let place = data::read_factors(file, buffer, place, factors, order);
+    let place = data::read_floats(file, buffer, place, b);
     let answer = dual_lu::solve(n, factors, order, b, x);
     match answer {
-        SolveAnswer::Done => matrices::same_floats(file, buffer, place, x),
+        SolveAnswer::Done => data::same_floats(file, buffer, place, x),
         SolveAnswer::Refused { number } => Compared { place, same: false },
     }
 }
@@ -79,10 +79,10 @@ pub(crate) fn determinant(
 ) -> Compared {
     let swaps = replay::next_word(file, buffer, place);
     let place = swaps.place;
-    let place = matrices::read_factors(file, buffer, place, factors, order);
+    let place = data::read_factors(file, buffer, place, factors, order);
     let answer = dual_lu::determinant(n, factors, order, swaps.word as usize);
     match answer {
-        DualAnswer::Value(x) => matrices::same_floats(file, buffer, place, &[x.re, x.eps]),
+        DualAnswer::Value(x) => data::same_floats(file, buffer, place, &[x.re, x.eps]),
         DualAnswer::Refused(_) => Compared { place, same: false },
     }
 }
@@ -96,10 +96,10 @@ pub(crate) fn inverse(
     order: &mut [usize],
     out: &mut [f64],
 ) -> Compared {
-    let place = matrices::read_factors(file, buffer, place, factors, order);
+    let place = data::read_factors(file, buffer, place, factors, order);
     let answer = dual_lu::inverse(n, factors, order, out);
     match answer {
-        SolveAnswer::Done => matrices::same_floats(file, buffer, place, out),
+        SolveAnswer::Done => data::same_floats(file, buffer, place, out),
         SolveAnswer::Refused { number } => Compared { place, same: false },
     }
 }

@@ -1,5 +1,5 @@
-use Prim.Native.Nat.{_-_}
 use borrow.Author.Needs.{needs}
+use Prim.Native.Nat.{_-_}
 use Rattle.matrices.proofs.Turns.{Columns, columns-start, columns-turn, columns-stop, columns-end}
 use Rattle.dual_cells.proofs.Cells.{dual-laws}
 use Rattle.dual_lu.proofs.columns.run_columns.Statement.{statement}
@@ -14,19 +14,12 @@ abbrev μ-loop : tie.MeasureT-loop
 pub run-columns-spec : {M : Type 1} → statement M
 run-columns-spec =
     tie.close
-    (tie.spec
-    Inv-loop
-    μ-loop
-    (λ c. columns-start dual-laws _ _ _ (c .before .before .pre .0) (c .before .before .pre .1))
-    (λ c κs. search needs)
-    (λ c. search needs)
-    (λ c. search needs)
-    (λ c. search needs)
+    (tie.spec Inv-loop μ-loop
+    (λ c. search (needs, columns-start dual-laws))
+    (λ c κs. search needs) (λ c. search needs) (λ c. search needs) (λ c. search needs)
     (λ c. search needs)
     (λ c. search (needs, columns-stop dual-laws))
-    (λ c. search needs)
-    (λ c. search needs)
+    (λ c. search needs) (λ c. search needs)
     (λ c. search (needs, columns-turn dual-laws))
-    (λ c. search needs)
-    (λ c. search needs)
+    (λ c. search needs) (λ c. search needs)
     (λ c. search (needs, columns-end dual-laws)))

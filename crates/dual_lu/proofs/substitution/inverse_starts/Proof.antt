@@ -1,28 +1,24 @@
+use borrow.Author.Needs.{needs}
 use Prim.Native.Nat.{_-_, _<_}
 use denote.Ref.{now}
 use lib.ListN.{getD}
-use borrow.Author.Needs.{needs}
 use native.Mathlib.Omega.{arith}
-use Rattle.dual.specs.Rules.{dualAlgebra}
-use Rattle.matrices.specs.Inverse.{units}
 use Rattle.matrices.specs.Matrix.{Square, Row}
 use Rattle.matrices.proofs.Permutation.{order-below}
 use Rattle.matrices.proofs.Places.{row-of}
-use Rattle.matrices.proofs.Turns.{Running, run-end, oneInRow, ones-start, ones-turn}
+use Rattle.matrices.proofs.Turns.{Ones, ones-start, ones-turn, run-end}
 use Rattle.dual_cells.proofs.Cells.{dual-laws}
 use Rattle.dual_lu.proofs.substitution.inverse_starts.Statement.{statement}
 use Rattle.dual_lu.proofs.substitution.inverse_starts.Tie as tie
 
 abbrev Inv-loop : tie.InvT-loop
-Inv-loop n order x₀ i₀ x i = Running dual-laws (oneInRow dual-laws n order) n x₀ x i (units dualAlgebra n order)
+Inv-loop n order x₀ i₀ x i = Ones dual-laws n order x₀ x i
 
 abbrev μ-loop : tie.MeasureT-loop
 μ-loop n order x₀ i₀ x i = n - i
 
 -- where the one of row i stands
-known : (c : tie.In-loop Inv-loop μ-loop) →
-    let s = c .before .before .before .before .before .before .before .before in
-    Row 2 (s .args .n) (c .before .loop .i) (c .before .loop .x) × (getD (now (s .args .order)) (c .before .loop .i) 0 < s .args .n)
+known : (c : tie.In-loop Inv-loop μ-loop) → let s = c .before .before .before .before .before .before .before .before .args in let at = c .before .loop in Row 2 (s .n) (at .i) (at .x) × (getD (now (s .order)) (at .i) 0 < s .n)
 known c =
     let s = c .before .before .before .before .before .before .before .before in
     let sq : Square 2 (s .args .n) (c .before .loop .x) = search needs in
@@ -31,9 +27,7 @@ known c =
 pub inverse-starts-spec : {M : Type 1} → statement M
 inverse-starts-spec =
     tie.close
-    (tie.spec
-    Inv-loop
-    μ-loop
+    (tie.spec Inv-loop μ-loop
     (λ c κs. search needs)
     (λ c. search (needs, ones-start dual-laws))
     (λ c. omega (arith, c .before .before .before .before .before .before .before .before .pre .0 .size))
@@ -41,8 +35,7 @@ inverse-starts-spec =
     (λ c. omega (arith, known (c .before .before)))
     (λ c. omega (arith, known (c .before .before)))
     (λ c κs. omega (arith, known (c .before .before)))
-    (λ c. search needs)
-    (λ c. search needs)
+    (λ c. search needs) (λ c. search needs)
     (λ c. search (needs, ones-turn dual-laws))
     (λ c. search needs)
     (λ c. search (needs, run-end dual-laws)))

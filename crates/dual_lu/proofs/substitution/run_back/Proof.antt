@@ -1,46 +1,33 @@
-use mathlib.Core.Path.{_≡_, refl}
-use Prim.Native.Nat.{ℕ, _-_, _<_}
 use borrow.Author.Needs.{needs}
+use Prim.Native.Nat.{_-_, _<_}
 use native.Mathlib.Omega.{arith}
-use Rattle.algebra.specs.Flat.{decode}
-use Rattle.dual.specs.Rules.{dualAlgebra, dualLayout}
-use Rattle.matrices.specs.Solve.{backRow, back}
-use Rattle.matrices.proofs.Places.{row-of, strided-keep}
-use Rattle.matrices.proofs.Turns.{Running, run-turn, run-end}
+use Rattle.matrices.proofs.Places.{row-of, strided-keep, strided-place}
+use Rattle.matrices.proofs.Turns.{Backing, backing, run-turn, run-end}
 use Rattle.dual_cells.proofs.Cells.{dual-laws}
 use Rattle.dual_lu.proofs.substitution.run_back.Statement.{statement}
 use Rattle.dual_lu.proofs.substitution.run_back.Tie as tie
 
 abbrev Inv-loop : tie.InvT-loop
-Inv-loop n a x₀ stride base t₀ x t = Running dual-laws (λ k. backRow dualAlgebra n (decode dualLayout a) stride base (n - 1 - k)) n x₀ x t (back dualAlgebra n (decode dualLayout a) stride base (decode dualLayout x₀))
+Inv-loop n a x₀ stride base t₀ x t = Backing dual-laws n a x₀ stride base x t
 
 abbrev μ-loop : tie.MeasureT-loop
 μ-loop n a x₀ stride base t₀ x t = n - t
 
-loop-holds : tie.Need-loop-holds Inv-loop μ-loop
-unfolding back
-loop-holds c = record { size = refl; rest = refl }
-
 back-row-requires : tie.Need-back-row-requires Inv-loop μ-loop
 back-row-requires c κs =
-    let s = c .before .before .before .before .before in
-    let at = c .before .before .loop in
-    let h : s .args .n - 1 - at .t < s .args .n = omega arith in
-    let v = strided-keep (at .x) (at .inv .size) (s .pre .1) in
-    (row-of 2 _ _ _ (s .pre .0) h, (v, v .inside _ h))
+    let n = c .before .before .before .before .before .args .n in
+    let h : n - 1 - c .before .before .loop .t < n = omega arith in
+    search (needs, row-of, strided-keep, strided-place)
 
 pub run-back-spec : {M : Type 1} → statement M
 run-back-spec =
     tie.close
-    (tie.spec
-    Inv-loop
-    μ-loop
-    loop-holds
+    (tie.spec Inv-loop μ-loop
+    (λ c. backing dual-laws _ _ _ _ _)
     (λ c. omega arith)
     (λ c. omega arith)
     back-row-requires
-    (λ c. search needs)
-    (λ c. search needs)
+    (λ c. search needs) (λ c. search needs)
     (λ c. search (needs, run-turn dual-laws))
     (λ c. search needs)
     (λ c. search (needs, run-end dual-laws)))

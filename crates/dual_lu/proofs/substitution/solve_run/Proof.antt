@@ -1,6 +1,5 @@
 use borrow.Author.Needs.{needs}
-use native.Mathlib.Omega.{arith}
-use Rattle.matrices.proofs.Places.{strided-whole}
+use Rattle.matrices.proofs.Places.{whole-kept}
 use Rattle.matrices.proofs.Turns.{solved}
 use Rattle.dual_cells.proofs.Cells.{dual-laws}
 use Rattle.dual_lu.proofs.substitution.solve_run.Statement.{statement}
@@ -11,6 +10,6 @@ solve-run-spec =
     tie.close
     (tie.spec
     (λ c κs. search needs)
-    (λ c κs. (search needs, strided-whole 2 _ _ (omega arith)))
+    (λ c κs. search (needs, whole-kept))
     (λ c. search needs)
     (λ c. search (needs, solved dual-laws)))

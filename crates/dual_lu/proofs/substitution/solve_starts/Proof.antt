@@ -1,19 +1,15 @@
+use borrow.Author.Needs.{needs}
 use Prim.Native.Nat.{_-_}
 use denote.Ref.{now}
-use lib.ListN.{getD}
-use borrow.Author.Needs.{needs}
 use native.Mathlib.Omega.{arith}
-use Rattle.algebra.specs.Algebra.{zeroOf}
-use Rattle.algebra.specs.Flat.{decode}
-use Rattle.dual.specs.Rules.{dualAlgebra, dualLayout}
 use Rattle.matrices.proofs.Permutation.{order-below}
-use Rattle.matrices.proofs.Turns.{Starting, starting, start-turn, start-end}
+use Rattle.matrices.proofs.Turns.{Starting, starting, start-turn, start-end, startOf}
 use Rattle.dual_cells.proofs.Cells.{dual-laws}
 use Rattle.dual_lu.proofs.substitution.solve_starts.Statement.{statement}
 use Rattle.dual_lu.proofs.substitution.solve_starts.Tie as tie
 
 abbrev Inv-loop : tie.InvT-loop
-Inv-loop n order b x₀ i₀ x i = Starting dual-laws (λ k. getD (decode dualLayout b) (getD order k 0) (zeroOf dualAlgebra)) x₀ x i
+Inv-loop n order b x₀ i₀ x i = Starting dual-laws (startOf dual-laws order b) x₀ x i
 
 abbrev μ-loop : tie.MeasureT-loop
 μ-loop n order b x₀ i₀ x i = n - i
@@ -28,16 +24,12 @@ read-requires c κs =
 pub solve-starts-spec : {M : Type 1} → statement M
 solve-starts-spec =
     tie.close
-    (tie.spec
-    Inv-loop
-    μ-loop
+    (tie.spec Inv-loop μ-loop
     (λ c. starting dual-laws _ _)
     (λ c. omega (arith, c .before .before .before .before .before .pre .0 .size))
     (λ c. omega (arith, c .before .before .before .before .before .before .pre .0 .size))
     read-requires
-    (λ c κs. search needs)
-    (λ c. search needs)
-    (λ c. search needs)
+    (λ c κs. search needs) (λ c. search needs) (λ c. search needs)
     (λ c. search (needs, start-turn dual-laws))
     (λ c. search needs)
     (λ c. search (needs, start-end dual-laws)))

@@ -8,7 +8,6 @@ pub determinant-of-spec : {M : Type 1} → statement M
 determinant-of-spec =
     tie.close
     (tie.spec
-    (λ c κs. search needs)
-    (λ c κs. search needs)
+    (λ c κs. search needs) (λ c κs. search needs)
     (λ c. search (needs, determinant-odd hyper-dual-laws))
     (λ c. search (needs, determinant-even hyper-dual-laws)))

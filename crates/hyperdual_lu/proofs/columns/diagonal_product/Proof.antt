@@ -1,43 +1,25 @@
-use mathlib.Core.Path.{_≡_, refl, ap, _∙_}
-use Prim.Native.Nat.{_≤_, _-_}
 use borrow.Author.Needs.{needs}
-use native.Mathlib.Omega.{arith}
-use Rattle.algebra.specs.Flat.{decode}
-use Rattle.algebra.specs.Loop.{upto}
-use Rattle.algebra.proofs.Loop.{upto-turn, upto-end}
-use Rattle.hyperdual.specs.Rules.{hyperDualAlgebra, hyperDualLayout}
-use Rattle.matrices.specs.Matrix.{Row, cell}
-use Rattle.matrices.specs.Determinant.{diagonal}
+use Prim.Native.Nat.{_-_}
 use Rattle.matrices.proofs.Places.{row-of}
+use Rattle.matrices.proofs.Turns.{Multiplying, multiplying, multiply-turn, multiply-end}
+use Rattle.hyperdual_cells.proofs.Cells.{hyper-dual-laws}
 use Rattle.hyperdual_lu.proofs.columns.diagonal_product.Statement.{statement}
 use Rattle.hyperdual_lu.proofs.columns.diagonal_product.Tie as tie
 
 abbrev Inv-loop : tie.InvT-loop
-Inv-loop n a x₀ i₀ x i = upto i n (λ k y. hyperDualAlgebra .mul y (cell hyperDualAlgebra n (decode hyperDualLayout a) k k)) x ≡ diagonal hyperDualAlgebra n (decode hyperDualLayout a)
+Inv-loop n a x₀ i₀ x i = Multiplying hyper-dual-laws n a x i
 
 abbrev μ-loop : tie.MeasureT-loop
 μ-loop n a x₀ i₀ x i = n - i
 
-loop-holds : tie.Need-loop-holds Inv-loop μ-loop
-unfolding diagonal
-loop-holds c = refl
-
-loop-again : tie.Need-loop-again Inv-loop μ-loop
-unfolding cell
-loop-again c = upto-turn _ _ _ _ _ (c .before .before .loop-test .taken) (c .mul .ensures ∙ ap (hyperDualAlgebra .mul _) (c .before .read .ensures)) (c .before .before .before .loop .inv)
-
 pub diagonal-product-spec : {M : Type 1} → statement M
 diagonal-product-spec =
     tie.close
-    (tie.spec
-    Inv-loop
-    μ-loop
-    loop-holds
+    (tie.spec Inv-loop μ-loop
+    (λ c. multiplying hyper-dual-laws _ _)
     (λ c. let t = row-of 4 _ _ _ (c .before .before .before .pre) (c .loop-test .taken) in search needs)
     (λ c. let t = row-of 4 _ _ _ (c .before .before .before .pre) (c .loop-test .taken) in search needs)
     (λ c κs. let t = row-of 4 _ _ _ (c .before .before .before .pre) (c .loop-test .taken) in search needs)
-    (λ c κs. search needs)
-    (λ c. search needs)
-    (λ c. search needs)
-    loop-again
-    (λ c. upto-end _ _ _ _ (c .loop-test .left) (c .before .loop .inv)))
+    (λ c κs. search needs) (λ c. search needs) (λ c. search needs)
+    (λ c. search (needs, multiply-turn hyper-dual-laws))
+    (λ c. search (needs, multiply-end hyper-dual-laws)))

@@ -4,24 +4,12 @@ use Rattle.hyperdual_cells.proofs.Cells.{hyper-dual-laws}
 use Rattle.hyperdual_lu.proofs.columns.reduce_row.Statement.{statement}
 use Rattle.hyperdual_lu.proofs.columns.reduce_row.Tie as tie
 
-subtract-row-requires : tie.Need-subtract-row-requires
-subtract-row-requires c κs = (search needs, (search needs, search (needs, multiplier-stored hyper-dual-laws)))
-
-returns : tie.Need-returns
-returns c = search (needs, reduced hyper-dual-laws)
-
 pub reduce-row-spec : {M : Type 1} → statement M
 reduce-row-spec =
     tie.close
     (tie.spec
+    (λ c. search needs) (λ c. search needs) (λ c κs. search needs) (λ c. search needs)
+    (λ c. search needs) (λ c κs. search needs) (λ c κs. search needs) (λ c κs. search needs)
+    (λ c κs. (search needs, (search needs, search (needs, multiplier-stored hyper-dual-laws))))
     (λ c. search needs)
-    (λ c. search needs)
-    (λ c κs. search needs)
-    (λ c. search needs)
-    (λ c. search needs)
-    (λ c κs. search needs)
-    (λ c κs. search needs)
-    (λ c κs. search needs)
-    subtract-row-requires
-    (λ c. search needs)
-    returns)
+    (λ c. search (needs, reduced hyper-dual-laws)))

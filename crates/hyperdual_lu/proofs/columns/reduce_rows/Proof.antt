@@ -1,42 +1,25 @@
-use mathlib.Core.Path.{refl}
-use Prim.Native.Nat.{_-_}
 use borrow.Author.Needs.{needs}
-use Rattle.algebra.specs.Flat.{decode}
-use Rattle.hyperdual.specs.Rules.{hyperDualAlgebra, hyperDualLayout}
-use Rattle.matrices.specs.Lu.{reduceRow, reduce}
-use Rattle.matrices.specs.Matrix.{Square}
-use Rattle.matrices.proofs.Places.{row-of}
-use Rattle.matrices.proofs.Turns.{Running, run-turn, run-end}
+use Prim.Native.Nat.{_-_}
+use Rattle.matrices.proofs.Places.{row-kept}
+use Rattle.matrices.proofs.Turns.{Reducing, reducing, run-turn, run-end}
 use Rattle.hyperdual_cells.proofs.Cells.{hyper-dual-laws}
 use Rattle.hyperdual_lu.proofs.columns.reduce_rows.Statement.{statement}
 use Rattle.hyperdual_lu.proofs.columns.reduce_rows.Tie as tie
 
 abbrev Inv-loop : tie.InvT-loop
-Inv-loop n a₀ i j₀ a j = Running hyper-dual-laws (reduceRow hyperDualAlgebra n i) n a₀ a j (reduce hyperDualAlgebra n i (decode hyperDualLayout a₀))
+Inv-loop n a₀ i j₀ a j = Reducing hyper-dual-laws n a₀ i a j
 
 abbrev μ-loop : tie.MeasureT-loop
 μ-loop n a₀ i j₀ a j = n - j
 
-loop-holds : tie.Need-loop-holds Inv-loop μ-loop
-unfolding reduce
-loop-holds c = record { size = refl; rest = refl }
-
-reduce-row-requires : tie.Need-reduce-row-requires Inv-loop μ-loop
-reduce-row-requires c κs =
-    let s : Square 4 (c .before .before .before .before .args .n) (c .before .before .loop .a) = search needs in
-    (row-of 4 _ _ _ s (search needs), row-of 4 _ _ _ s (search needs))
-
 pub reduce-rows-spec : {M : Type 1} → statement M
 reduce-rows-spec =
     tie.close
-    (tie.spec
-    Inv-loop
-    μ-loop
+    (tie.spec Inv-loop μ-loop
     (λ c. search needs)
-    loop-holds
-    reduce-row-requires
-    (λ c. search needs)
-    (λ c. search needs)
+    (λ c. reducing hyper-dual-laws _ _ _)
+    (λ c κs. search (needs, row-kept))
+    (λ c. search needs) (λ c. search needs)
     (λ c. search (needs, run-turn hyper-dual-laws))
     (λ c. search needs)
     (λ c. search (needs, run-end hyper-dual-laws)))

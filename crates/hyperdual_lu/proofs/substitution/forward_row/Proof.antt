@@ -8,10 +8,7 @@ pub forward-row-spec : {M : Type 1} → statement M
 forward-row-spec =
     tie.close
     (tie.spec
-    (λ c. search needs)
-    (λ c. search needs)
-    (λ c κs. search needs)
+    (λ c. search needs) (λ c. search needs) (λ c κs. search needs)
     (λ c κs. (search needs, (search needs, search needs)))
-    (λ c κs. search needs)
-    (λ c. search needs)
+    (λ c κs. search needs) (λ c. search needs)
     (λ c. search (needs, forwarded hyper-dual-laws)))

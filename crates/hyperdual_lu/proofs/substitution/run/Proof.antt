@@ -5,14 +5,11 @@ use Rattle.hyperdual_cells.proofs.Cells.{hyper-dual-laws}
 use Rattle.hyperdual_lu.proofs.substitution.run.Statement.{statement}
 use Rattle.hyperdual_lu.proofs.substitution.run.Tie as tie
 
-run-back-requires : tie.Need-run-back-requires
-run-back-requires c κs = (search needs, strided-keep (c .before .before .before .run-forward .last .1 .1 .0) (search needs) (c .before .before .before .before .before .before .before .pre .1))
-
 pub run-spec : {M : Type 1} → statement M
 run-spec =
     tie.close
     (tie.spec
     (λ c κs. search needs)
-    run-back-requires
+    (λ c κs. search (needs, strided-keep))
     (λ c. search needs)
     (λ c. search (needs, substituted hyper-dual-laws)))

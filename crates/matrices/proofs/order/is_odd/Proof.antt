@@ -22,7 +22,7 @@ abbrev μ-loop : tie.MeasureT-loop
 
 -- an entry has a bit of the word
 known : (c : tie.In-loop Inv-loop μ-loop) → getD (now (c .before .before .before .args .order)) (c .before .loop .i) 0 < 64
-known c = let s = c .before .before .before in all-at (λ v. v < 64) (now (s .args .order)) (c .before .loop .i) (c .loop-test .taken) (s .pre)
+known c = let s = c .before .before .before in omega (arith, all-at (λ v. v < 32) (now (s .args .order)) (c .before .loop .i) (c .loop-test .taken) (s .pre))
 
 loop-holds : tie.Need-loop-holds Inv-loop μ-loop
 loop-holds c = (omega arith, parity-start _)

@@ -39,7 +39,8 @@ returns : tie.Need-returns Inv-loop μ-loop
 returns c =
     let at = c .before .before .before in
     let s = at .before .args in
-    sym (turn (s .n) (at .loop .seen) (now (s .order)) (at .loop .i) (c .before .before .loop-test .taken) false _ (le-ltb _ _ (c .if1 .taken)) refl) ∙ at .loop .inv .1
+    let h : s .n ≤ getD (now (s .order)) (at .loop .i) 0 = omega arith in
+    sym (turn (s .n) (at .loop .seen) (now (s .order)) (at .loop .i) (c .before .before .loop-test .taken) false _ (le-ltb _ _ h) refl) ∙ at .loop .inv .1
 
 shr-if2 : tie.Need-shr-if2 Inv-loop μ-loop
 shr-if2 c = omega arith
@@ -48,7 +49,8 @@ returns-2 : tie.Need-returns-2 Inv-loop μ-loop
 returns-2 c =
     let at = c .before .before .before .before in
     let s = at .before .args in
-    sym (turn (s .n) (at .loop .seen) (now (s .order)) (at .loop .i) (c .before .before .before .loop-test .taken) true true (lt-ltb _ _ (c .before .if1 .left)) (eq-eqb _ _ (c .if2 .taken))) ∙ at .loop .inv .1
+    let h : getD (now (s .order)) (at .loop .i) 0 < s .n = omega arith in
+    sym (turn (s .n) (at .loop .seen) (now (s .order)) (at .loop .i) (c .before .before .before .loop-test .taken) true true (lt-ltb _ _ h) (eq-eqb _ _ (c .if2 .taken))) ∙ at .loop .inv .1
 
 shl-seen : tie.Need-shl-seen Inv-loop μ-loop
 shl-seen c = omega arith
@@ -65,10 +67,10 @@ loop-again c =
     let s = at .before .args in
     let o = now (s .order) in
     let x = getD o (at .loop .i) 0 in
-    let h : x < 64 = omega arith in (
+    let h : x < s .n = omega arith in (
       omega arith,
-      ap (λ (k : ℕ). passes (s .n) (bitOr (at .loop .seen) k) (drop (at .loop .i + 1) o)) (one-shifted x h)
-          ∙ sym (turn (s .n) (at .loop .seen) o (at .loop .i) (c .before .before .before .loop-test .taken) true false (lt-ltb _ _ (c .before .if1 .left)) (ne-eqb _ _ (c .if2 .left)))
+      ap (λ (k : ℕ). passes (s .n) (bitOr (at .loop .seen) k) (drop (at .loop .i + 1) o)) (one-shifted x (omega arith))
+          ∙ sym (turn (s .n) (at .loop .seen) o (at .loop .i) (c .before .before .before .loop-test .taken) true false (lt-ltb _ _ h) (ne-eqb _ _ (c .if2 .left)))
           ∙ at .loop .inv .1,
     )
 

@@ -32,7 +32,7 @@ wrong-swaps-requires c κs =
     let s = c .before .before .before .before .before .before .args in
     let small = c .before .before .before .before .if1 .left in
     let o = isOrder-order (s .n) (now (s .order)) (c .before .before .if3 .left) (sym (c .before .is-order .ensures) ∙ c .if4 .taken) in
-    all-map (λ v. v < s .n) (λ v. v < 64) (λ v h. omega arith) (now (s .order)) (o .below)
+    all-map (λ v. v < s .n) (λ v. v < 32) (λ v h. omega arith) (now (s .order)) (o .below)
 
 returns-4 : tie.Need-returns-4
 returns-4 c = rw (le-ltb 32 _ (c .before .before .before .before .before .if1 .left), eq-eqb _ _ (c .before .before .before .before .if2 .left), eq-eqb _ _ (c .before .before .before .if3 .left), sym (c .before .before .is-order .ensures) ∙ c .before .if4 .taken) (c .wrong-swaps .ensures)
