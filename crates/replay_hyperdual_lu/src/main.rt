@@ -84,8 +84,8 @@ fn replay_file(entry: u8, path: &[u8], name: &[u8]) {
 }
 
 fn main() {
-    replay_file(0, b"lu-hyperdual.txt", b"lu");
-    replay_file(1, b"solve-hyperdual.txt", b"solve");
-    replay_file(2, b"determinant-hyperdual.txt", b"determinant");
-    replay_file(3, b"inverse-hyperdual.txt", b"inverse");
+    replay_file(0, b"lu-hyperdual.txt", b"hyperdual lu");
+    replay_file(1, b"solve-hyperdual.txt", b"hyperdual solve");
+    replay_file(2, b"determinant-hyperdual.txt", b"hyperdual determinant");
+    replay_file(3, b"inverse-hyperdual.txt", b"hyperdual inverse");
 }
