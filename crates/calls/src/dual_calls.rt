@@ -1,6 +1,9 @@
 // Calls over `Dual`: two words a record, re and eps.
+use crate::Binary;
+use crate::ByFloat;
 use crate::Call;
 use crate::Operation;
+use crate::Unary;
 use crate::table;
 use crate::tests;
 use crate::words;
@@ -15,7 +18,7 @@ ghost use lib.ListN.{length};
 ghost use Rattle.algebra.specs.Outcome.{mapOutcome};
 ghost use Rattle.dual.specs.Rules.{dualLayout, outcome};
 ghost use Rattle.calls.specs.Words.{wordsOf};
-ghost use Rattle.calls.specs.Called.{Sized, lentRecord, operateOf, answerOf, leaves, calledOf, joinedLeft, summedOf, multipliedOf};
+ghost use Rattle.calls.specs.Called.{Sized, lentRecord, unaryOf, binaryOf, byFloatOf, operateOf, answerOf, leaves, calledOf, joinedLeft, summedOf, multipliedOf};
 ghost use Rattle.calls.specs.Kinds.{dualKind, dualDerivatives};
 
 const WIDTH: usize = 2;
@@ -29,26 +32,48 @@ fn derivative(function: u32, x: Dual) -> DualAnswer
     }
 }
 
+fn unary(op: Unary, x: Dual) -> Dual
+    ensures { λ r. ⌜ r ≡ unaryOf dualKind op x ⌝ }
+{
+    match op {
+        Unary::Neg => x.neg(),
+        Unary::Abs => x.abs(),
+        Unary::Signum => x.signum(),
+    }
+}
+
+fn binary(op: Binary, x: Dual, y: Dual) -> Dual
+    ensures { λ r. ⌜ r ≡ binaryOf dualKind op x y ⌝ }
+{
+    match op {
+        Binary::Add => x.add(y),
+        Binary::Sub => x.sub(y),
+        Binary::Mul => x.mul(y),
+        Binary::Div => x.div(y),
+        Binary::AbsSub => x.abs_sub(y),
+    }
+}
+
+fn by_float(op: ByFloat, x: Dual, f: f64) -> Dual
+    ensures { λ r. ⌜ r ≡ byFloatOf dualKind op x f ⌝ }
+{
+    match op {
+        ByFloat::Mul => x.mul_float(f),
+        ByFloat::Div => x.div_float(f),
+        ByFloat::Add => x.add_float(f),
+        ByFloat::Sub => x.sub_float(f),
+    }
+}
+
 fn operate(op: Operation, x: Dual, y: Dual, z: Dual) -> DualAnswer
     ensures { λ r. ⌜ outcome r ≡ operateOf dualKind op x y z ⌝ }
 {
     match op {
-        Operation::Zero => DualAnswer::Value(Dual::zero()),
-        Operation::One => DualAnswer::Value(Dual::one()),
         Operation::FromRe(re) => DualAnswer::Value(Dual::from_re(re)),
         Operation::Derivative(function) => derivative(function, x),
-        Operation::Add => DualAnswer::Value(x.add(y)),
-        Operation::Sub => DualAnswer::Value(x.sub(y)),
-        Operation::Mul => DualAnswer::Value(x.mul(y)),
-        Operation::Div => DualAnswer::Value(x.div(y)),
-        Operation::Neg => DualAnswer::Value(x.neg()),
-        Operation::MulFloat(f) => DualAnswer::Value(x.mul_float(f)),
-        Operation::DivFloat(f) => DualAnswer::Value(x.div_float(f)),
-        Operation::AddFloat(f) => DualAnswer::Value(x.add_float(f)),
-        Operation::SubFloat(f) => DualAnswer::Value(x.sub_float(f)),
-        Operation::Abs => DualAnswer::Value(x.abs()),
-        Operation::Signum => DualAnswer::Value(x.signum()),
-        Operation::AbsSub => DualAnswer::Value(x.abs_sub(y)),
+        Operation::Unary(op) => DualAnswer::Value(unary(op, x)),
+        Operation::Binary(op) => DualAnswer::Value(binary(op, x, y)),
+        Operation::ByFloat(op, f) => DualAnswer::Value(by_float(op, x, f)),
         Operation::Atan2 {
             atan: a,
             quadrant: q,
