@@ -1,9 +1,8 @@
 // Every operation and request of the five record types by number, over lent words: the function numbers are those of oracle/README.md ("Functions"), a word
 // is the bits of a float. What a number stands for is decided once for all records (table.rt); a record adds what it does for a call (dual_calls.rt, ..).
-pub mod dual_calls;
-mod table;
-mod tests;
-mod words;
+pub mod table;
+pub mod tests;
+pub mod words;
 
 use derivatives::Function;
 

@@ -230,7 +230,7 @@ fn fitting(width: usize, row: Row, records: usize, floats: usize, out: usize) ->
 }
 
 // The call of a function number where each length is the one that it takes, else Unknown: so many words of records, the words of the floats, so many words of out.
-pub(crate) fn call_of(
+pub fn call_of(
     width: usize,
     function: u32,
     exponent: i32,
