@@ -1,3 +1,3 @@
--- Laws that the proofs cite.
+-- Laws that the proofs cite; those of the crates of the records are public.
 mod Missing
-mod Fitting
+pub mod Fitting

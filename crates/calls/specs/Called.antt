@@ -9,18 +9,24 @@ use lib.Ieee.{Float, eq, lt, le}
 use lib.IntN.{ℤ}
 use Rattle.real.specs.Operations as float
 use Rattle.real.specs.Sign.{signOf}
-use Rattle.algebra.specs.Algebra.{Algebra, zeroOf, oneOf, addFloat, subFloat, magnitude}
+use Rattle.algebra.specs.Algebra.{Algebra, addFloat, subFloat, magnitude}
 use Rattle.algebra.specs.Flat.{Layout, recordAt, sumOf, productOf}
 use Rattle.algebra.specs.Outcome.{Outcome, value, refused, mapOutcome}
 use Rattle.derivatives.specs.Apply.{applyOf, sinOf, cosOf, atan2Of, mulAddOf, powdOf, absSubOf, signumOf}
 use Rattle.calls.specs.declared.Test.{Test}
 use Rattle.calls.specs.declared.Test.the-variants.{Eq, Lt, Le, Gt, Ge, IsNegative, IsPositive, IsZero, IsOne}
+use Rattle.calls.specs.declared.Unary.{Unary}
+use Rattle.calls.specs.declared.Unary.the-variants as unary
+use Rattle.calls.specs.declared.Binary.{Binary}
+use Rattle.calls.specs.declared.Binary.the-variants as binary
+use Rattle.calls.specs.declared.ByFloat.{ByFloat}
+use Rattle.calls.specs.declared.ByFloat.the-variants as byFloat
 use Rattle.calls.specs.declared.Operation.{Operation}
-use Rattle.calls.specs.declared.Operation.the-variants.{Zero, One, FromRe, Derivative, Add, Sub, Mul, Div, Neg, MulFloat, DivFloat, AddFloat, SubFloat, Abs, Signum, AbsSub, Atan2, MulAdd, Powd, Request}
+use Rattle.calls.specs.declared.Operation.the-variants as operation
 use Rattle.calls.specs.declared.Call.{Call}
 use Rattle.calls.specs.declared.Call.the-variants.{Unknown, Truth, SinCos, Record}
 use Rattle.calls.specs.declared.Row.{Row}
-use Rattle.calls.specs.Table.{operatorRow}
+use Rattle.calls.specs.Table.{rowOf}
 use Rattle.calls.specs.Words.{floatsOf, wordsOf}
 
 -- A record type by what calls use of it: its operations, its layout in flat floats, and `derivative`, `derivative1`, .. by function number, refused 2 where the
@@ -68,7 +74,7 @@ fitting width r records floats out =
 -- the call of a function number; the floats are lent as words
 unfoldable pub callOf : ℕ → ℕ → ℤ → ℕ → List ℕ → ℕ → Call
 callOf width function exponent records floats out =
-    fitting width (operatorRow function (getD (floatsOf floats) 0 float.zero) (getD (floatsOf floats) 1 float.zero) exponent) records (length floats) out
+    fitting width (rowOf function (getD (floatsOf floats) 0 float.zero) (getD (floatsOf floats) 1 float.zero) exponent) records (length floats) out
 
 -- what a call leaves: the number 0 and what it gives, or the number that it is refused by and out as it was
 abbrev pub leaves : {T : Type 0} → Outcome (List T) → List T → ℕ × List T
@@ -76,28 +82,35 @@ leaves (value given) out = (0, given)
 leaves (refused number) out = (number, out)
 
 module _ {R : Type 0} (K : Kind R) where
+  abbrev pub unaryOf : Unary → R → R
+  unaryOf unary.Neg x = K .algebra .neg x
+  unaryOf unary.Abs x = magnitude (K .algebra) x
+  unaryOf unary.Signum x = signumOf (K .algebra) x
+
+  abbrev pub binaryOf : Binary → R → R → R
+  binaryOf binary.Add x y = K .algebra .add x y
+  binaryOf binary.Sub x y = K .algebra .sub x y
+  binaryOf binary.Mul x y = K .algebra .mul x y
+  binaryOf binary.Div x y = K .algebra .div x y
+  binaryOf binary.AbsSub x y = absSubOf (K .algebra) x y
+
+  abbrev pub byFloatOf : ByFloat → R → Float → R
+  byFloatOf byFloat.Mul x f = K .algebra .mulFloat x f
+  byFloatOf byFloat.Div x f = K .algebra .divFloat x f
+  byFloatOf byFloat.Add x f = addFloat (K .algebra) x f
+  byFloatOf byFloat.Sub x f = subFloat (K .algebra) x f
+
   -- what gives one record
   abbrev pub operateOf : Operation → R → R → R → Outcome R
-  operateOf Zero x y z = value (zeroOf (K .algebra))
-  operateOf One x y z = value (oneOf (K .algebra))
-  operateOf (FromRe re) x y z = value (K .algebra .fromRe re)
-  operateOf (Derivative function) x y z = K .derivative function x
-  operateOf Add x y z = value (K .algebra .add x y)
-  operateOf Sub x y z = value (K .algebra .sub x y)
-  operateOf Mul x y z = value (K .algebra .mul x y)
-  operateOf Div x y z = value (K .algebra .div x y)
-  operateOf Neg x y z = value (K .algebra .neg x)
-  operateOf (MulFloat f) x y z = value (K .algebra .mulFloat x f)
-  operateOf (DivFloat f) x y z = value (K .algebra .divFloat x f)
-  operateOf (AddFloat f) x y z = value (addFloat (K .algebra) x f)
-  operateOf (SubFloat f) x y z = value (subFloat (K .algebra) x f)
-  operateOf Abs x y z = value (magnitude (K .algebra) x)
-  operateOf Signum x y z = value (signumOf (K .algebra) x)
-  operateOf AbsSub x y z = value (absSubOf (K .algebra) x y)
-  operateOf (Atan2 atan quadrant) x y z = value (atan2Of (K .algebra) x y atan quadrant)
-  operateOf MulAdd x y z = value (mulAddOf (K .algebra) x y z)
-  operateOf (Powd ln exp) x y z = value (powdOf (K .algebra) x y ln exp)
-  operateOf (Request f) x y z = applyOf (K .algebra) x f
+  operateOf (operation.FromRe re) x y z = value (K .algebra .fromRe re)
+  operateOf (operation.Derivative function) x y z = K .derivative function x
+  operateOf (operation.Unary op) x y z = value (unaryOf op x)
+  operateOf (operation.Binary op) x y z = value (binaryOf op x y)
+  operateOf (operation.ByFloat op f) x y z = value (byFloatOf op x f)
+  operateOf (operation.Atan2 atan quadrant) x y z = value (atan2Of (K .algebra) x y atan quadrant)
+  operateOf operation.MulAdd x y z = value (mulAddOf (K .algebra) x y z)
+  operateOf (operation.Powd ln exp) x y z = value (powdOf (K .algebra) x y ln exp)
+  operateOf (operation.Request f) x y z = applyOf (K .algebra) x f
 
   -- what a call gives, as floats
   abbrev pub answerOf : Call → R → R → R → Outcome (List Float)

@@ -1,13 +1,8 @@
 // Every operation and request of the five record types by number, over lent words: the function numbers are those of oracle/README.md ("Functions"), a word
 // is the bits of a float. What a number stands for is decided once for all records (table.rt); a record adds what it does for a call (dual_calls.rt, ..).
-pub mod dual2_calls;
-pub mod dual3_calls;
-pub mod dual_calls;
-pub mod hyperdual_calls;
-pub mod hyperhyperdual_calls;
-mod table;
-mod tests;
-mod words;
+pub mod table;
+pub mod tests;
+pub mod words;
 
 use derivatives::Function;
 
@@ -24,25 +19,38 @@ pub enum Test {
     IsOne,
 }
 
-// What gives one record, from up to three and the floats that stand here.
-pub enum Operation {
-    Zero,
-    One,
-    FromRe(f64),
-    // `derivative`, `derivative1`, .. by function number
-    Derivative(u32),
+// An operation on one record.
+pub enum Unary {
+    Neg,
+    Abs,
+    Signum,
+}
+
+// An operation on two records.
+pub enum Binary {
     Add,
     Sub,
     Mul,
     Div,
-    Neg,
-    MulFloat(f64),
-    DivFloat(f64),
-    AddFloat(f64),
-    SubFloat(f64),
-    Abs,
-    Signum,
     AbsSub,
+}
+
+// An operation on a record and a plain float.
+pub enum ByFloat {
+    Mul,
+    Div,
+    Add,
+    Sub,
+}
+
+// What gives one record, from up to three and the floats that stand here.
+pub enum Operation {
+    FromRe(f64),
+    // `derivative`, `derivative1`, .. by function number
+    Derivative(u32),
+    Unary(Unary),
+    Binary(Binary),
+    ByFloat(ByFloat, f64),
     Atan2 { atan: f64, quadrant: f64 },
     MulAdd,
     Powd { ln: f64, exp: f64 },

@@ -1,14 +1,19 @@
 // The table of functions by number, and the call of a number with its lengths.
+use crate::Binary;
+use crate::ByFloat;
 use crate::Call;
 use crate::Operation;
 use crate::Row;
 use crate::Test;
+use crate::Unary;
 use crate::words;
 use derivatives::Function;
 ghost use mathlib.Core.Path.{_≡_};
 ghost use Prim.Native.Nat.{_≤_};
-ghost use Rattle.calls.specs.Table.{row, operation, request, operatorRow, powerRow, angleRow, otherRow};
+ghost use Rattle.calls.specs.Table.{row, rowOf, operatorRow, powerRow, exponentialRow, angleRow, areaRow, compositionRow, testRow};
 ghost use Rattle.calls.specs.Called.{sizeOf, fitting, callOf};
+ghost use Rattle.calls.specs.declared.Call.the-variants.{Record};
+ghost use Rattle.calls.specs.declared.Operation.the-variants as operation;
 
 impl Row {
     fn new(records: u8, floats: u8, call: Call) -> Self
@@ -22,52 +27,73 @@ impl Row {
     }
 
     fn operation(records: u8, floats: u8, op: Operation) -> Self
-        ensures { λ r. ⌜ r ≡ operation records floats op ⌝ }
+        ensures { λ r. ⌜ r ≡ row records floats (Record op) ⌝ }
     {
         Self::new(records, floats, Call::Record(op))
     }
 
-    fn request(floats: u8, function: Function) -> Self
-        ensures { λ r. ⌜ r ≡ request floats function ⌝ }
+    fn binary(op: Binary) -> Self
+        ensures { λ r. ⌜ r ≡ row 2 0 (Record (operation.Binary op)) ⌝ }
     {
-        Self::operation(1, floats, Operation::Request(function))
+        Self::operation(2, 0, Operation::Binary(op))
+    }
+
+    fn by_float(op: ByFloat, a: f64) -> Self
+        ensures { λ r. ⌜ r ≡ row 1 1 (Record (operation.ByFloat op a)) ⌝ }
+    {
+        Self::operation(1, 1, Operation::ByFloat(op, a))
+    }
+
+    fn request(floats: u8, f: Function) -> Self
+        ensures { λ r. ⌜ r ≡ row 1 floats (Record (operation.Request f)) ⌝ }
+    {
+        Self::operation(1, floats, Operation::Request(f))
     }
 }
 
-// Constants, derivatives, the operators.
-fn operator_row(function: u32, a: f64, b: f64, exponent: i32) -> Row
-    ensures { λ r. ⌜ r ≡ operatorRow function a b exponent ⌝ }
+// zero, one, from_re; derivative, derivative1, derivative2, derivative3.
+fn row_of(function: u32, a: f64, b: f64, exponent: i32) -> Row
+    ensures { λ r. ⌜ r ≡ rowOf function a b exponent ⌝ }
 {
     match function {
-        0x01 => Row::operation(0, 0, Operation::Zero),
-        0x02 => Row::operation(0, 0, Operation::One),
+        0x01 => Row::operation(0, 0, Operation::FromRe(0.0)),
+        0x02 => Row::operation(0, 0, Operation::FromRe(1.0)),
         0x04 => Row::operation(0, 1, Operation::FromRe(a)),
         0x05 => Row::operation(1, 0, Operation::Derivative(0x05)),
         0x06 => Row::operation(1, 0, Operation::Derivative(0x06)),
         0x07 => Row::operation(1, 0, Operation::Derivative(0x07)),
         0x08 => Row::operation(1, 0, Operation::Derivative(0x08)),
-        0x09 => Row::operation(2, 0, Operation::Add),
-        0x0a => Row::operation(2, 0, Operation::Sub),
-        0x0b => Row::operation(2, 0, Operation::Mul),
-        0x0c => Row::operation(2, 0, Operation::Div),
-        0x0d => Row::operation(1, 0, Operation::Neg),
-        0x0e => Row::operation(1, 1, Operation::MulFloat(a)),
-        0x0f => Row::operation(1, 1, Operation::DivFloat(a)),
-        0x10 => Row::operation(1, 1, Operation::AddFloat(a)),
-        0x11 => Row::operation(1, 1, Operation::SubFloat(a)),
-        0x12 => Row::operation(1, 1, Operation::MulFloat(a)),
+        _ => operator_row(function, a, b, exponent),
+    }
+}
+
+// add, sub, mul, div, neg; a record times, divided by, plus, minus a float; scale.
+fn operator_row(function: u32, a: f64, b: f64, exponent: i32) -> Row
+    ensures { λ r. ⌜ r ≡ operatorRow function a b exponent ⌝ }
+{
+    match function {
+        0x09 => Row::binary(Binary::Add),
+        0x0a => Row::binary(Binary::Sub),
+        0x0b => Row::binary(Binary::Mul),
+        0x0c => Row::binary(Binary::Div),
+        0x0d => Row::operation(1, 0, Operation::Unary(Unary::Neg)),
+        0x0e => Row::by_float(ByFloat::Mul, a),
+        0x0f => Row::by_float(ByFloat::Div, a),
+        0x10 => Row::by_float(ByFloat::Add, a),
+        0x11 => Row::by_float(ByFloat::Sub, a),
+        0x12 => Row::by_float(ByFloat::Mul, a),
         _ => power_row(function, a, b, exponent),
     }
 }
 
-// Magnitudes and signs, powers, roots, exponentials and logarithms.
+// abs, signum, abs_sub; recip, inv, sqrt; powi, powf.
 fn power_row(function: u32, a: f64, b: f64, exponent: i32) -> Row
     ensures { λ r. ⌜ r ≡ powerRow function a b exponent ⌝ }
 {
     match function {
-        0x15 => Row::operation(1, 0, Operation::Abs),
-        0x16 => Row::operation(1, 0, Operation::Signum),
-        0x17 => Row::operation(2, 0, Operation::AbsSub),
+        0x15 => Row::operation(1, 0, Operation::Unary(Unary::Abs)),
+        0x16 => Row::operation(1, 0, Operation::Unary(Unary::Signum)),
+        0x17 => Row::binary(Binary::AbsSub),
         0x18 => Row::request(0, Function::Recip),
         0x19 => Row::request(0, Function::Recip),
         0x1a => Row::request(0, Function::Sqrt),
@@ -79,6 +105,15 @@ fn power_row(function: u32, a: f64, b: f64, exponent: i32) -> Row
             },
         ),
         0x1c => Row::request(2, Function::Powf { n: a, pow3: b }),
+        _ => exponential_row(function, a, b),
+    }
+}
+
+// cbrt, exp, exp2, exp_m1, ln, log, log2, log10, ln_1p.
+fn exponential_row(function: u32, a: f64, b: f64) -> Row
+    ensures { λ r. ⌜ r ≡ exponentialRow function a b ⌝ }
+{
+    match function {
         0x1d => Row::request(1, Function::Cbrt { cbrt: a }),
         0x1e => Row::request(1, Function::Exp { exp: a }),
         0x1f => Row::request(1, Function::Exp2 { exp2: a }),
@@ -92,7 +127,7 @@ fn power_row(function: u32, a: f64, b: f64, exponent: i32) -> Row
     }
 }
 
-// The functions of an angle, of an area, and their inverses.
+// sin, cos, sin_cos, tan, asin, acos, atan, atan2.
 fn angle_row(function: u32, a: f64, b: f64) -> Row
     ensures { λ r. ⌜ r ≡ angleRow function a b ⌝ }
 {
@@ -112,6 +147,15 @@ fn angle_row(function: u32, a: f64, b: f64) -> Row
                 quadrant: b,
             },
         ),
+        _ => area_row(function, a, b),
+    }
+}
+
+// sinh, cosh, tanh, asinh, acosh, atanh; sph_j0, sph_j1, sph_j2.
+fn area_row(function: u32, a: f64, b: f64) -> Row
+    ensures { λ r. ⌜ r ≡ areaRow function a b ⌝ }
+{
+    match function {
         0x2e => Row::request(2, Function::Sinh { sinh: a, cosh: b }),
         0x2f => Row::request(2, Function::Cosh { sinh: a, cosh: b }),
         0x30 => Row::request(2, Function::Tanh { sinh: a, cosh: b }),
@@ -121,17 +165,26 @@ fn angle_row(function: u32, a: f64, b: f64) -> Row
         0x34 => Row::request(2, Function::SphJ0 { sin: a, cos: b }),
         0x35 => Row::request(2, Function::SphJ1 { sin: a, cos: b }),
         0x36 => Row::request(2, Function::SphJ2 { sin: a, cos: b }),
-        _ => other_row(function, a, b),
+        _ => composition_row(function, a, b),
     }
 }
 
-// `mul_add`, `powd`, the tests.
-fn other_row(function: u32, a: f64, b: f64) -> Row
-    ensures { λ r. ⌜ r ≡ otherRow function a b ⌝ }
+// mul_add, powd.
+fn composition_row(function: u32, a: f64, b: f64) -> Row
+    ensures { λ r. ⌜ r ≡ compositionRow function a b ⌝ }
 {
     match function {
         0x37 => Row::operation(3, 0, Operation::MulAdd),
         0x38 => Row::operation(2, 2, Operation::Powd { ln: a, exp: b }),
+        _ => test_row(function),
+    }
+}
+
+// eq, lt, le, gt, ge; is_negative, is_positive, is_zero, is_one.
+fn test_row(function: u32) -> Row
+    ensures { λ r. ⌜ r ≡ testRow function ⌝ }
+{
+    match function {
         0x3b => Row::new(2, 0, Call::Truth(Test::Eq)),
         0x3c => Row::new(2, 0, Call::Truth(Test::Lt)),
         0x3d => Row::new(2, 0, Call::Truth(Test::Le)),
@@ -177,7 +230,7 @@ fn fitting(width: usize, row: Row, records: usize, floats: usize, out: usize) ->
 }
 
 // The call of a function number where each length is the one that it takes, else Unknown: so many words of records, the words of the floats, so many words of out.
-pub(crate) fn call_of(
+pub fn call_of(
     width: usize,
     function: u32,
     exponent: i32,
@@ -190,6 +243,6 @@ pub(crate) fn call_of(
 {
     let a = words::part(floats, 0);
     let b = words::part(floats, 1);
-    let row = operator_row(function, a, b, exponent);
+    let row = row_of(function, a, b, exponent);
     fitting(width, row, records, floats.len(), out)
 }

@@ -6,7 +6,7 @@ ghost use Rattle.real.specs.Operations as float;
 ghost use Rattle.calls.specs.Words.{floatsOf, wordsOf};
 
 // The float of word number i, +0.0 where there is none.
-pub(crate) fn part(words: &[u64], i: usize) -> f64
+pub fn part(words: &[u64], i: usize) -> f64
     ensures { λ r. ⌜ r ≡ getD (floatsOf (now (words .entry))) i float.zero ⌝ }
 {
     if i < words.len() {
@@ -17,7 +17,7 @@ pub(crate) fn part(words: &[u64], i: usize) -> f64
 }
 
 // The words of the parts.
-pub(crate) fn put(parts: &[f64], out: &mut [u64])
+pub fn put(parts: &[f64], out: &mut [u64])
     requires { ⌜ length (now out) ≡ length (now parts) ⌝ }
     ensures { λ _. ⌜ now (out .exit) ≡ wordsOf (now (parts .entry)) ⌝ }
 {
@@ -29,7 +29,7 @@ pub(crate) fn put(parts: &[f64], out: &mut [u64])
 }
 
 // The word of one float.
-pub(crate) fn put_one(x: f64, out: &mut [u64])
+pub fn put_one(x: f64, out: &mut [u64])
     requires { ⌜ length (now out) ≡ 1 ⌝ }
     ensures { λ _. ⌜ now (out .exit) ≡ wordsOf (x ∷ []) ⌝ }
 {

@@ -1,0 +1,44 @@
+use mir.Syntax.{w32}
+use mir.ValLaws.{toZ-ofZ}
+use Rattle.calls.specs.Called.{calledOf}
+use Rattle.calls.proofs.Fitting.{call-sized}
+use borrow.Author.Needs.{needs}
+use Rattle.dual3_calls.proofs.call.Statement.{statement}
+use Rattle.dual3_calls.proofs.call.Tie as tie
+
+call-of-requires : tie.Need-call-of-requires
+call-of-requires c κs = search needs
+
+record-at-requires : tie.Need-record-at-requires
+record-at-requires c κs = search needs
+
+record-at-requires-2 : tie.Need-record-at-requires-2
+record-at-requires-2 c κs = search needs
+
+record-at-requires-3 : tie.Need-record-at-requires-3
+record-at-requires-3 c κs = search needs
+
+run-requires : tie.Need-run-requires
+run-requires c κs = rw (c .before .before .before .before .call-of .ensures) (call-sized _ _ _ _ _ _)
+
+same-length : tie.Need-same-length
+same-length c = search needs
+
+returns : tie.Need-returns
+unfolding calledOf
+returns c =
+    let told = rw (toZ-ofZ w32 (c .before .before .before .before .before .before .before .before .before .before .before .args .exponent) (search needs)) at (c .before .before .before .before .before .before .before .call-of .ensures) in
+    rw (← told)
+    (rw (c .before .before .before .before .before .before .record-at .ensures, c .before .before .before .before .before .record-at2 .ensures, c .before .before .before .before .record-at3 .ensures) at (c .before .before .run .ensures))
+
+pub call-spec : {M : Type 1} → statement M
+call-spec =
+    tie.close
+    (tie.spec
+    call-of-requires
+    record-at-requires
+    record-at-requires-2
+    record-at-requires-3
+    run-requires
+    same-length
+    returns)

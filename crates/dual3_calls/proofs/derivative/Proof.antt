@@ -1,0 +1,16 @@
+use borrow.Author.Tests.{ne-eqb}
+use borrow.Author.Needs.{needs}
+use Rattle.dual3_calls.proofs.derivative.Statement.{statement}
+use Rattle.dual3_calls.proofs.derivative.Tie as tie
+
+derivative-requires : tie.Need-derivative-requires
+derivative-requires c κs = search needs
+
+returns : tie.Need-returns
+returns c = rw (c .before .match .keys1) (cc)
+
+returns-2 : tie.Need-returns-2
+returns-2 c = rw (ne-eqb _ _ (c .match .rest .1))
+
+pub derivative-spec : {M : Type 1} → statement M
+derivative-spec = tie.close (tie.spec derivative-requires returns returns-2)

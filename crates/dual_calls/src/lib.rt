@@ -1,0 +1,177 @@
+// Calls over `Dual`: two words a record, re and eps.
+use calls::Binary;
+use calls::ByFloat;
+use calls::Call;
+use calls::Operation;
+use calls::Unary;
+use calls::table;
+use calls::tests;
+use calls::words;
+use dual::Dual;
+use dual::DualAnswer;
+use dual::DualSinCos;
+use matrices::floats;
+ghost use mathlib.Core.Path.{_≡_};
+ghost use mathlib.Core.List.{_++_};
+ghost use Prim.Native.Nat.{_+_, _<_};
+ghost use lib.ListN.{length};
+ghost use Rattle.algebra.specs.Outcome.{mapOutcome};
+ghost use Rattle.dual.specs.Rules.{dualLayout, outcome};
+ghost use Rattle.calls.specs.Words.{wordsOf};
+ghost use Rattle.calls.specs.Called.{Sized, lentRecord, unaryOf, binaryOf, byFloatOf, operateOf, answerOf, leaves, calledOf, joinedLeft, summedOf, multipliedOf};
+ghost use Rattle.dual_calls.specs.Kind.{dualKind, dualDerivatives};
+
+const WIDTH: usize = 2;
+
+fn derivative(function: u32, x: Dual) -> DualAnswer
+    ensures { λ r. ⌜ outcome r ≡ dualDerivatives function x ⌝ }
+{
+    match function {
+        0x05 => DualAnswer::Value(x.derivative()),
+        _ => DualAnswer::Refused(algebra::WRONG_LENGTH),
+    }
+}
+
+fn unary(op: Unary, x: Dual) -> Dual
+    ensures { λ r. ⌜ r ≡ unaryOf dualKind op x ⌝ }
+{
+    match op {
+        Unary::Neg => x.neg(),
+        Unary::Abs => x.abs(),
+        Unary::Signum => x.signum(),
+    }
+}
+
+fn binary(op: Binary, x: Dual, y: Dual) -> Dual
+    ensures { λ r. ⌜ r ≡ binaryOf dualKind op x y ⌝ }
+{
+    match op {
+        Binary::Add => x.add(y),
+        Binary::Sub => x.sub(y),
+        Binary::Mul => x.mul(y),
+        Binary::Div => x.div(y),
+        Binary::AbsSub => x.abs_sub(y),
+    }
+}
+
+fn by_float(op: ByFloat, x: Dual, f: f64) -> Dual
+    ensures { λ r. ⌜ r ≡ byFloatOf dualKind op x f ⌝ }
+{
+    match op {
+        ByFloat::Mul => x.mul_float(f),
+        ByFloat::Div => x.div_float(f),
+        ByFloat::Add => x.add_float(f),
+        ByFloat::Sub => x.sub_float(f),
+    }
+}
+
+fn operate(op: Operation, x: Dual, y: Dual, z: Dual) -> DualAnswer
+    ensures { λ r. ⌜ outcome r ≡ operateOf dualKind op x y z ⌝ }
+{
+    match op {
+        Operation::FromRe(re) => DualAnswer::Value(Dual::from_re(re)),
+        Operation::Derivative(function) => derivative(function, x),
+        Operation::Unary(op) => DualAnswer::Value(unary(op, x)),
+        Operation::Binary(op) => DualAnswer::Value(binary(op, x, y)),
+        Operation::ByFloat(op, f) => DualAnswer::Value(by_float(op, x, f)),
+        Operation::Atan2 {
+            atan: a,
+            quadrant: q,
+        } => DualAnswer::Value(x.atan2(y, a, q)),
+        Operation::MulAdd => DualAnswer::Value(x.mul_add(y, z)),
+        Operation::Powd { ln, exp } => DualAnswer::Value(x.powd(y, ln, exp)),
+        Operation::Request(f) => x.apply(f),
+    }
+}
+
+// Record number p; a word that is not there reads as zero.
+fn record_at(words: &[u64], p: usize) -> Dual
+    requires { ⌜ p < 3 ⌝ }
+    ensures { λ r. ⌜ r ≡ lentRecord dualKind (now (words .entry)) p ⌝ }
+{
+    let at = p * WIDTH;
+    Dual::new(words::part(words, at), words::part(words, at + 1))
+}
+
+fn leave(answer: DualAnswer, out: &mut [u64]) -> u32
+    requires { ⌜ length (now out) ≡ dualLayout .width ⌝ }
+    ensures { λ r. ⌜ (r, now (out .exit)) ≡ leaves (mapOutcome wordsOf (mapOutcome (dualLayout .parts) (outcome answer))) (now (out .entry)) ⌝ }
+{
+    match answer {
+        DualAnswer::Value(x) => {
+            let parts = [x.re, x.eps];
+            words::put(&parts, out);
+            0
+        }
+        DualAnswer::Refused(number) => number,
+    }
+}
+
+fn leave_both(answer: DualSinCos, out: &mut [u64])
+    requires { ⌜ length (now out) ≡ dualLayout .width + dualLayout .width ⌝ }
+    ensures { λ _. ⌜ now (out .exit) ≡ wordsOf (dualLayout .parts (answer .sin) ++ dualLayout .parts (answer .cos)) ⌝ }
+{
+    let s = answer.sin;
+    let c = answer.cos;
+    let parts = [s.re, s.eps, c.re, c.eps];
+    words::put(&parts, out);
+}
+
+fn run(call: Call, x: Dual, y: Dual, z: Dual, out: &mut [u64]) -> u32
+    requires { ⌜ Sized (dualLayout .width) (length (now out)) call ⌝ }
+    ensures { λ r. ⌜ (r, now (out .exit)) ≡ leaves (mapOutcome wordsOf (answerOf dualKind call x y z)) (now (out .entry)) ⌝ }
+{
+    match call {
+        Call::Unknown => algebra::WRONG_LENGTH,
+        Call::Truth(test) => {
+            words::put_one(tests::truth(test, x.re, y.re), out);
+            0
+        }
+        Call::SinCos { sin, cos } => {
+            leave_both(x.sin_cos(sin, cos), out);
+            0
+        }
+        Call::Record(op) => leave(operate(op, x, y, z), out),
+    }
+}
+
+// A call by function number.
+pub fn call(function: u32, exponent: i32, records: &[u64], floats: &[u64], out: &mut [u64]) -> u32
+    ensures { λ r. ⌜ (r, now (out .exit)) ≡ calledOf dualKind function exponent (now (records .entry)) (now (floats .entry)) (now (out .entry)) ⌝ }
+{
+    let call = table::call_of(WIDTH, function, exponent, records.len(), floats, out.len());
+    let x = record_at(records, 0);
+    let y = record_at(records, 1);
+    let z = record_at(records, 2);
+    run(call, x, y, z, out)
+}
+
+fn leave_floats(answer: DualAnswer, out: &mut [f64]) -> u32
+    ensures { λ r. ⌜ (r, now (out .exit)) ≡ joinedLeft dualKind (outcome answer) (now (out .entry)) ⌝ }
+{
+    if out.len() != WIDTH {
+        return algebra::WRONG_LENGTH;
+    }
+    match answer {
+        DualAnswer::Value(x) => {
+            let parts = [x.re, x.eps];
+            floats::copy(&parts, out);
+            0
+        }
+        DualAnswer::Refused(number) => number,
+    }
+}
+
+// The sum of the records of a run.
+pub fn sum(run: &[f64], out: &mut [f64]) -> u32
+    ensures { λ r. ⌜ (r, now (out .exit)) ≡ summedOf dualKind (now (run .entry)) (now (out .entry)) ⌝ }
+{
+    leave_floats(dual::sum(run), out)
+}
+
+// The product of the records of a run.
+pub fn product(run: &[f64], out: &mut [f64]) -> u32
+    ensures { λ r. ⌜ (r, now (out .exit)) ≡ multipliedOf dualKind (now (run .entry)) (now (out .entry)) ⌝ }
+{
+    leave_floats(dual::product(run), out)
+}

@@ -1,0 +1,192 @@
+// Calls over `HyperDual`: four words a record, re, eps1, eps2 and eps1eps2.
+use calls::Binary;
+use calls::ByFloat;
+use calls::Call;
+use calls::Operation;
+use calls::Unary;
+use calls::table;
+use calls::tests;
+use calls::words;
+use hyperdual::HyperDual;
+use hyperdual::HyperDualAnswer;
+use hyperdual::HyperDualSinCos;
+use matrices::floats;
+ghost use mathlib.Core.Path.{_≡_};
+ghost use mathlib.Core.List.{_++_};
+ghost use Prim.Native.Nat.{_+_, _<_};
+ghost use lib.ListN.{length};
+ghost use Rattle.algebra.specs.Outcome.{mapOutcome};
+ghost use Rattle.hyperdual.specs.Rules.{hyperDualLayout, outcome};
+ghost use Rattle.calls.specs.Words.{wordsOf};
+ghost use Rattle.calls.specs.Called.{Sized, lentRecord, unaryOf, binaryOf, byFloatOf, operateOf, answerOf, leaves, calledOf, joinedLeft, summedOf, multipliedOf};
+ghost use Rattle.hyperdual_calls.specs.Kind.{hyperDualKind, hyperDualDerivatives};
+
+const WIDTH: usize = 4;
+
+fn derivative(function: u32, x: HyperDual) -> HyperDualAnswer
+    ensures { λ r. ⌜ outcome r ≡ hyperDualDerivatives function x ⌝ }
+{
+    match function {
+        0x06 => HyperDualAnswer::Value(x.derivative1()),
+        0x07 => HyperDualAnswer::Value(x.derivative2()),
+        _ => HyperDualAnswer::Refused(algebra::WRONG_LENGTH),
+    }
+}
+
+fn unary(op: Unary, x: HyperDual) -> HyperDual
+    ensures { λ r. ⌜ r ≡ unaryOf hyperDualKind op x ⌝ }
+{
+    match op {
+        Unary::Neg => x.neg(),
+        Unary::Abs => x.abs(),
+        Unary::Signum => x.signum(),
+    }
+}
+
+fn binary(op: Binary, x: HyperDual, y: HyperDual) -> HyperDual
+    ensures { λ r. ⌜ r ≡ binaryOf hyperDualKind op x y ⌝ }
+{
+    match op {
+        Binary::Add => x.add(y),
+        Binary::Sub => x.sub(y),
+        Binary::Mul => x.mul(y),
+        Binary::Div => x.div(y),
+        Binary::AbsSub => x.abs_sub(y),
+    }
+}
+
+fn by_float(op: ByFloat, x: HyperDual, f: f64) -> HyperDual
+    ensures { λ r. ⌜ r ≡ byFloatOf hyperDualKind op x f ⌝ }
+{
+    match op {
+        ByFloat::Mul => x.mul_float(f),
+        ByFloat::Div => x.div_float(f),
+        ByFloat::Add => x.add_float(f),
+        ByFloat::Sub => x.sub_float(f),
+    }
+}
+
+fn operate(op: Operation, x: HyperDual, y: HyperDual, z: HyperDual) -> HyperDualAnswer
+    ensures { λ r. ⌜ outcome r ≡ operateOf hyperDualKind op x y z ⌝ }
+{
+    match op {
+        Operation::FromRe(re) => HyperDualAnswer::Value(HyperDual::from_re(re)),
+        Operation::Derivative(function) => derivative(function, x),
+        Operation::Unary(op) => HyperDualAnswer::Value(unary(op, x)),
+        Operation::Binary(op) => HyperDualAnswer::Value(binary(op, x, y)),
+        Operation::ByFloat(op, f) => HyperDualAnswer::Value(by_float(op, x, f)),
+        Operation::Atan2 {
+            atan: a,
+            quadrant: q,
+        } => HyperDualAnswer::Value(x.atan2(y, a, q)),
+        Operation::MulAdd => HyperDualAnswer::Value(x.mul_add(y, z)),
+        Operation::Powd { ln, exp } => HyperDualAnswer::Value(x.powd(y, ln, exp)),
+        Operation::Request(f) => x.apply(f),
+    }
+}
+
+// Record number p; a word that is not there reads as zero.
+fn record_at(words: &[u64], p: usize) -> HyperDual
+    requires { ⌜ p < 3 ⌝ }
+    ensures { λ r. ⌜ r ≡ lentRecord hyperDualKind (now (words .entry)) p ⌝ }
+{
+    let at = p * WIDTH;
+    HyperDual::new(
+        words::part(words, at),
+        words::part(words, at + 1),
+        words::part(words, at + 2),
+        words::part(words, at + 3),
+    )
+}
+
+fn leave(answer: HyperDualAnswer, out: &mut [u64]) -> u32
+    requires { ⌜ length (now out) ≡ hyperDualLayout .width ⌝ }
+    ensures { λ r. ⌜ (r, now (out .exit)) ≡ leaves (mapOutcome wordsOf (mapOutcome (hyperDualLayout .parts) (outcome answer))) (now (out .entry)) ⌝ }
+{
+    match answer {
+        HyperDualAnswer::Value(x) => {
+            let parts = [x.re, x.eps1, x.eps2, x.eps1eps2];
+            words::put(&parts, out);
+            0
+        }
+        HyperDualAnswer::Refused(number) => number,
+    }
+}
+
+fn leave_both(answer: HyperDualSinCos, out: &mut [u64])
+    requires { ⌜ length (now out) ≡ hyperDualLayout .width + hyperDualLayout .width ⌝ }
+    ensures { λ _. ⌜ now (out .exit) ≡ wordsOf (hyperDualLayout .parts (answer .sin) ++ hyperDualLayout .parts (answer .cos)) ⌝ }
+{
+    let s = answer.sin;
+    let c = answer.cos;
+    let parts = [
+        s.re,
+        s.eps1,
+        s.eps2,
+        s.eps1eps2,
+        c.re,
+        c.eps1,
+        c.eps2,
+        c.eps1eps2,
+    ];
+    words::put(&parts, out);
+}
+
+fn run(call: Call, x: HyperDual, y: HyperDual, z: HyperDual, out: &mut [u64]) -> u32
+    requires { ⌜ Sized (hyperDualLayout .width) (length (now out)) call ⌝ }
+    ensures { λ r. ⌜ (r, now (out .exit)) ≡ leaves (mapOutcome wordsOf (answerOf hyperDualKind call x y z)) (now (out .entry)) ⌝ }
+{
+    match call {
+        Call::Unknown => algebra::WRONG_LENGTH,
+        Call::Truth(test) => {
+            words::put_one(tests::truth(test, x.re, y.re), out);
+            0
+        }
+        Call::SinCos { sin, cos } => {
+            leave_both(x.sin_cos(sin, cos), out);
+            0
+        }
+        Call::Record(op) => leave(operate(op, x, y, z), out),
+    }
+}
+
+// A call by function number.
+pub fn call(function: u32, exponent: i32, records: &[u64], floats: &[u64], out: &mut [u64]) -> u32
+    ensures { λ r. ⌜ (r, now (out .exit)) ≡ calledOf hyperDualKind function exponent (now (records .entry)) (now (floats .entry)) (now (out .entry)) ⌝ }
+{
+    let call = table::call_of(WIDTH, function, exponent, records.len(), floats, out.len());
+    let x = record_at(records, 0);
+    let y = record_at(records, 1);
+    let z = record_at(records, 2);
+    run(call, x, y, z, out)
+}
+
+fn leave_floats(answer: HyperDualAnswer, out: &mut [f64]) -> u32
+    ensures { λ r. ⌜ (r, now (out .exit)) ≡ joinedLeft hyperDualKind (outcome answer) (now (out .entry)) ⌝ }
+{
+    if out.len() != WIDTH {
+        return algebra::WRONG_LENGTH;
+    }
+    match answer {
+        HyperDualAnswer::Value(x) => {
+            let parts = [x.re, x.eps1, x.eps2, x.eps1eps2];
+            floats::copy(&parts, out);
+            0
+        }
+        HyperDualAnswer::Refused(number) => number,
+    }
+}
+
+// The sum of the records of a run.
+pub fn sum(run: &[f64], out: &mut [f64]) -> u32
+    ensures { λ r. ⌜ (r, now (out .exit)) ≡ summedOf hyperDualKind (now (run .entry)) (now (out .entry)) ⌝ }
+{
+    leave_floats(hyperdual::sum(run), out)
+}
+
+// The product of the records of a run.
+pub fn product(run: &[f64], out: &mut [f64]) -> u32
+    ensures { λ r. ⌜ (r, now (out .exit)) ≡ multipliedOf hyperDualKind (now (run .entry)) (now (out .entry)) ⌝ }
+{
+    leave_floats(hyperdual::product(run), out)
+}

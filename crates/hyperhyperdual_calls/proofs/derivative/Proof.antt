@@ -1,0 +1,28 @@
+use borrow.Author.Tests.{ne-eqb}
+use borrow.Author.Needs.{needs}
+use Rattle.hyperhyperdual_calls.proofs.derivative.Statement.{statement}
+use Rattle.hyperhyperdual_calls.proofs.derivative.Tie as tie
+
+derivative1-requires : tie.Need-derivative1-requires
+derivative1-requires c κs = search needs
+
+derivative2-requires : tie.Need-derivative2-requires
+derivative2-requires c κs = search needs
+
+derivative3-requires : tie.Need-derivative3-requires
+derivative3-requires c κs = search needs
+
+returns : tie.Need-returns
+returns c = rw (c .before .match .keys1) (cc)
+
+returns-2 : tie.Need-returns-2
+returns-2 c = rw (c .before .match .keys2) (cc)
+
+returns-3 : tie.Need-returns-3
+returns-3 c = rw (c .before .match .keys3) (cc)
+
+returns-4 : tie.Need-returns-4
+returns-4 c = rw (ne-eqb _ _ (c .match .rest .0 .0 .1), ne-eqb _ _ (c .match .rest .0 .1), ne-eqb _ _ (c .match .rest .1))
+
+pub derivative-spec : {M : Type 1} → statement M
+derivative-spec = tie.close (tie.spec derivative1-requires derivative2-requires derivative3-requires returns returns-2 returns-3 returns-4)
