@@ -164,31 +164,40 @@ double evindrast_sqrt(double x);
 /* The same by the bits of x and of the root; a NaN leaves as 7ff8000000000000. */
 uint64_t evindrast_sqrt_word(uint64_t w);
 
-/* The LU factors of a matrix of EVINDRAST_DUAL records.
-   a, factors: 2 * n * n doubles; order: n entries.
+/* The LU factors of a matrix: of EVINDRAST_DUAL records, and under the names with hyperdual of EVINDRAST_HYPERDUAL records; w doubles a record, so w is 2
+   or 4.
+   a, factors: w * n * n doubles; order: n entries.
    At 0: `factors` holds both factors (the unit diagonal of the lower one left out), `order` the row of a that each row came from, `*beside` the
    number of swaps. At 6: `factors` is all +0.0, `order` all 0, `*beside` the column in which no pivot exceeds zero.
    Answers: 0, 1, 2, 6. */
 uint32_t evindrast_lu(size_t n, const double *a, size_t a_len, double *factors, size_t factors_len, size_t *order, size_t order_len,
                       size_t *beside);
+uint32_t evindrast_hyperdual_lu(size_t n, const double *a, size_t a_len, double *factors, size_t factors_len, size_t *order, size_t order_len,
+                                size_t *beside);
 
 /* x with a * x = b, from the factors and the order of a. A zero on the diagonal is not refused: infinities and NaNs follow.
-   factors: 2 * n * n doubles; order: n entries; b, x: 2 * n doubles. x is written at 0.
+   factors: w * n * n doubles; order: n entries; b, x: w * n doubles. x is written at 0.
    Answers: 0, 1, 2, 7. */
 uint32_t evindrast_solve(size_t n, const double *factors, size_t factors_len, const size_t *order, size_t order_len, const double *b,
                          size_t b_len, double *x, size_t x_len);
+uint32_t evindrast_hyperdual_solve(size_t n, const double *factors, size_t factors_len, const size_t *order, size_t order_len, const double *b,
+                                   size_t b_len, double *x, size_t x_len);
 
-/* The determinant, from the factors, the order and the number of swaps, into *re and *eps, written at 0.
-   factors: 2 * n * n doubles; order: n entries. For n = 0 it is (1, 0).
+/* The determinant, from the factors, the order and the number of swaps, into its parts, written at 0.
+   factors: w * n * n doubles; order: n entries. For n = 0 it is 1 with derivative parts 0.
    Answers: 0, 1, 2, 7, 8. */
 uint32_t evindrast_determinant(size_t n, const double *factors, size_t factors_len, const size_t *order, size_t order_len, size_t swaps,
                                double *re, double *eps);
+uint32_t evindrast_hyperdual_determinant(size_t n, const double *factors, size_t factors_len, const size_t *order, size_t order_len, size_t swaps,
+                                         double *re, double *eps1, double *eps2, double *eps1eps2);
 
 /* The inverse, from the factors and the order.
-   factors, out: 2 * n * n doubles; order: n entries. out is written at 0.
+   factors, out: w * n * n doubles; order: n entries. out is written at 0.
    Answers: 0, 1, 2, 7. */
 uint32_t evindrast_inverse(size_t n, const double *factors, size_t factors_len, const size_t *order, size_t order_len, double *out,
                            size_t out_len);
+uint32_t evindrast_hyperdual_inverse(size_t n, const double *factors, size_t factors_len, const size_t *order, size_t order_len, double *out,
+                                     size_t out_len);
 
 /* Eigenvalues, ascending by their real parts, and eigenvectors, a column each, of a symmetric matrix of EVINDRAST_DUAL records; what stands below
    the diagonal is not read.

@@ -3,87 +3,45 @@
 //! call that is refused writes nothing, but for [`lu`]'s 6. A matrix is n·n records row by row, a
 //! record its floats with the real part first; lengths count floats.
 
-mod library {
-    extern "C" {
-        pub fn evindrast_record(
-            kind: u32,
-            function: u32,
-            exponent: i32,
-            records: *const f64,
-            records_len: usize,
-            floats: *const f64,
-            floats_len: usize,
-            out: *mut f64,
-            out_len: usize,
-        ) -> u32;
-        pub fn evindrast_sum(
-            kind: u32,
-            run: *const f64,
-            run_len: usize,
-            out: *mut f64,
-            out_len: usize,
-        ) -> u32;
-        pub fn evindrast_product(
-            kind: u32,
-            run: *const f64,
-            run_len: usize,
-            out: *mut f64,
-            out_len: usize,
-        ) -> u32;
-        pub fn evindrast_sqrt(x: f64) -> f64;
-        pub fn evindrast_sqrt_word(w: u64) -> u64;
-        pub fn evindrast_lu(
-            n: usize,
-            a: *const f64,
-            a_len: usize,
-            factors: *mut f64,
-            factors_len: usize,
-            order: *mut usize,
-            order_len: usize,
-            beside: *mut usize,
-        ) -> u32;
-        pub fn evindrast_solve(
-            n: usize,
-            factors: *const f64,
-            factors_len: usize,
-            order: *const usize,
-            order_len: usize,
-            b: *const f64,
-            b_len: usize,
-            x: *mut f64,
-            x_len: usize,
-        ) -> u32;
-        pub fn evindrast_determinant(
-            n: usize,
-            factors: *const f64,
-            factors_len: usize,
-            order: *const usize,
-            order_len: usize,
-            swaps: usize,
-            re: *mut f64,
-            eps: *mut f64,
-        ) -> u32;
-        pub fn evindrast_inverse(
-            n: usize,
-            factors: *const f64,
-            factors_len: usize,
-            order: *const usize,
-            order_len: usize,
-            out: *mut f64,
-            out_len: usize,
-        ) -> u32;
-        pub fn evindrast_jacobi_eigenvalue(
-            n: usize,
-            a: *const f64,
-            a_len: usize,
-            limit: usize,
-            values: *mut f64,
-            values_len: usize,
-            vectors: *mut f64,
-            vectors_len: usize,
-            sweeps: *mut usize,
-        ) -> u32;
-    }
+extern "C" {
+    fn evindrast_record(
+        kind: u32,
+        function: u32,
+        exponent: i32,
+        records: *const f64,
+        records_len: usize,
+        floats: *const f64,
+        floats_len: usize,
+        out: *mut f64,
+        out_len: usize,
+    ) -> u32;
+    fn evindrast_sum(
+        kind: u32,
+        run: *const f64,
+        run_len: usize,
+        out: *mut f64,
+        out_len: usize,
+    ) -> u32;
+    fn evindrast_product(
+        kind: u32,
+        run: *const f64,
+        run_len: usize,
+        out: *mut f64,
+        out_len: usize,
+    ) -> u32;
+    fn evindrast_sqrt(x: f64) -> f64;
+    fn evindrast_sqrt_word(w: u64) -> u64;
+    fn evindrast_jacobi_eigenvalue(
+        n: usize,
+        a: *const f64,
+        a_len: usize,
+        limit: usize,
+        values: *mut f64,
+        values_len: usize,
+        vectors: *mut f64,
+        vectors_len: usize,
+        sweeps: *mut usize,
+    ) -> u32;
 }
 
 // Every call below is sound for any arguments: the library promises an answer for every input and
@@ -102,7 +60,7 @@ pub fn record(
     out: &mut [f64],
 ) -> u32 {
     unsafe {
-        library::evindrast_record(
+        evindrast_record(
             kind,
             function,
             exponent,
@@ -118,14 +76,12 @@ pub fn record(
 
 /// The sum of a run of records, from zero, left to right. Answers: 0, 2.
 pub fn sum(kind: u32, run: &[f64], out: &mut [f64]) -> u32 {
-    unsafe { library::evindrast_sum(kind, run.as_ptr(), run.len(), out.as_mut_ptr(), out.len()) }
+    unsafe { evindrast_sum(kind, run.as_ptr(), run.len(), out.as_mut_ptr(), out.len()) }
 }
 
 /// The product of a run of records, from one, left to right. Answers: 0, 2.
 pub fn product(kind: u32, run: &[f64], out: &mut [f64]) -> u32 {
-    unsafe {
-        library::evindrast_product(kind, run.as_ptr(), run.len(), out.as_mut_ptr(), out.len())
-    }
+    unsafe { evindrast_product(kind, run.as_ptr(), run.len(), out.as_mut_ptr(), out.len()) }
 }
 
 /// The square root of IEEE 754.
@@ -138,91 +94,161 @@ pub fn product(kind: u32, run: &[f64], out: &mut [f64]) -> u32 {
 /// ```
 #[inline]
 pub fn sqrt(x: f64) -> f64 {
-    unsafe { library::evindrast_sqrt(x) }
+    unsafe { evindrast_sqrt(x) }
 }
 
 /// The square root by bits; a NaN leaves as 7ff8000000000000.
 #[inline]
 pub fn sqrt_word(w: u64) -> u64 {
-    unsafe { library::evindrast_sqrt_word(w) }
+    unsafe { evindrast_sqrt_word(w) }
 }
 
-/// LU of 2n² floats. `beside` becomes the swap count at 0; at 6 it is the column, and `factors`
-/// and `order` are zero. Answers: 0, 1, 2, 6.
-pub fn lu(
-    n: usize,
-    a: &[f64],
-    factors: &mut [f64],
-    order: &mut [usize],
-    beside: &mut usize,
-) -> u32 {
-    unsafe {
-        library::evindrast_lu(
-            n,
-            a.as_ptr(),
-            a.len(),
-            factors.as_mut_ptr(),
-            factors.len(),
-            order.as_mut_ptr(),
-            order.len(),
-            beside,
-        )
-    }
+macro_rules! matrices {
+    ($record:literal, $floats:literal, [$($part:ident),*],
+        $lu:ident $library_lu:ident, $solve:ident $library_solve:ident,
+        $determinant:ident $library_determinant:ident, $inverse:ident $library_inverse:ident) => {
+        extern "C" {
+            fn $library_lu(
+                n: usize,
+                a: *const f64,
+                a_len: usize,
+                factors: *mut f64,
+                factors_len: usize,
+                order: *mut usize,
+                order_len: usize,
+                beside: *mut usize,
+            ) -> u32;
+            fn $library_solve(
+                n: usize,
+                factors: *const f64,
+                factors_len: usize,
+                order: *const usize,
+                order_len: usize,
+                b: *const f64,
+                b_len: usize,
+                x: *mut f64,
+                x_len: usize,
+            ) -> u32;
+            fn $library_determinant(
+                n: usize,
+                factors: *const f64,
+                factors_len: usize,
+                order: *const usize,
+                order_len: usize,
+                swaps: usize,
+                $($part: *mut f64),*
+            ) -> u32;
+            fn $library_inverse(
+                n: usize,
+                factors: *const f64,
+                factors_len: usize,
+                order: *const usize,
+                order_len: usize,
+                out: *mut f64,
+                out_len: usize,
+            ) -> u32;
+        }
+
+        #[doc = concat!("LU of a matrix of [`", $record, "`](crate::", $record, "), ")]
+        #[doc = concat!($floats, "n² floats.")]
+        /// `beside` becomes the swap count at 0; at 6 it is the column, and `factors` and `order`
+        /// are zero. Answers: 0, 1, 2, 6.
+        pub fn $lu(
+            n: usize,
+            a: &[f64],
+            factors: &mut [f64],
+            order: &mut [usize],
+            beside: &mut usize,
+        ) -> u32 {
+            unsafe {
+                $library_lu(
+                    n,
+                    a.as_ptr(),
+                    a.len(),
+                    factors.as_mut_ptr(),
+                    factors.len(),
+                    order.as_mut_ptr(),
+                    order.len(),
+                    beside,
+                )
+            }
+        }
+
+        #[doc = concat!("x with a·x = b, ", $floats, "n floats each, from a's factors and order.")]
+        /// Answers: 0, 1, 2, 7.
+        pub fn $solve(
+            n: usize,
+            factors: &[f64],
+            order: &[usize],
+            b: &[f64],
+            x: &mut [f64],
+        ) -> u32 {
+            unsafe {
+                $library_solve(
+                    n,
+                    factors.as_ptr(),
+                    factors.len(),
+                    order.as_ptr(),
+                    order.len(),
+                    b.as_ptr(),
+                    b.len(),
+                    x.as_mut_ptr(),
+                    x.len(),
+                )
+            }
+        }
+
+        /// The determinant's parts, from factors, order and swap count. Answers: 0, 1, 2, 7, 8.
+        pub fn $determinant(
+            n: usize,
+            factors: &[f64],
+            order: &[usize],
+            swaps: usize,
+            det: &mut [f64; $floats],
+        ) -> u32 {
+            let [$($part),*] = det;
+            unsafe {
+                $library_determinant(
+                    n,
+                    factors.as_ptr(),
+                    factors.len(),
+                    order.as_ptr(),
+                    order.len(),
+                    swaps,
+                    $($part),*
+                )
+            }
+        }
+
+        #[doc = concat!("The inverse, ", $floats, "n² floats, from factors and order.")]
+        /// Answers: 0, 1, 2, 7.
+        pub fn $inverse(n: usize, factors: &[f64], order: &[usize], out: &mut [f64]) -> u32 {
+            unsafe {
+                $library_inverse(
+                    n,
+                    factors.as_ptr(),
+                    factors.len(),
+                    order.as_ptr(),
+                    order.len(),
+                    out.as_mut_ptr(),
+                    out.len(),
+                )
+            }
+        }
+    };
 }
 
-/// x with a·x = b, 2n floats each, from a's factors and order. Answers: 0, 1, 2, 7.
-pub fn solve(n: usize, factors: &[f64], order: &[usize], b: &[f64], x: &mut [f64]) -> u32 {
-    unsafe {
-        library::evindrast_solve(
-            n,
-            factors.as_ptr(),
-            factors.len(),
-            order.as_ptr(),
-            order.len(),
-            b.as_ptr(),
-            b.len(),
-            x.as_mut_ptr(),
-            x.len(),
-        )
-    }
+matrices! {
+    "Dual64", 2, [re, eps],
+    lu evindrast_lu, solve evindrast_solve, determinant evindrast_determinant,
+    inverse evindrast_inverse
 }
 
-/// The determinant, re and eps, from factors, order and swap count. Answers: 0, 1, 2, 7, 8.
-pub fn determinant(
-    n: usize,
-    factors: &[f64],
-    order: &[usize],
-    swaps: usize,
-    det: &mut [f64; 2],
-) -> u32 {
-    let [re, eps] = det;
-    unsafe {
-        library::evindrast_determinant(
-            n,
-            factors.as_ptr(),
-            factors.len(),
-            order.as_ptr(),
-            order.len(),
-            swaps,
-            re,
-            eps,
-        )
-    }
-}
-
-/// The inverse, 2n² floats, from factors and order. Answers: 0, 1, 2, 7.
-pub fn inverse(n: usize, factors: &[f64], order: &[usize], out: &mut [f64]) -> u32 {
-    unsafe {
-        library::evindrast_inverse(
-            n,
-            factors.as_ptr(),
-            factors.len(),
-            order.as_ptr(),
-            order.len(),
-            out.as_mut_ptr(),
-            out.len(),
-        )
-    }
+matrices! {
+    "HyperDual64", 4, [re, eps1, eps2, eps1eps2],
+    hyperdual_lu evindrast_hyperdual_lu, hyperdual_solve evindrast_hyperdual_solve,
+    hyperdual_determinant evindrast_hyperdual_determinant,
+    hyperdual_inverse evindrast_hyperdual_inverse
 }
 
 /// Eigenvalues (2n floats) and eigenvectors (2n², a column each) in at most `limit` sweeps; their
@@ -236,7 +262,7 @@ pub fn jacobi_eigenvalue(
     sweeps: &mut usize,
 ) -> u32 {
     unsafe {
-        library::evindrast_jacobi_eigenvalue(
+        evindrast_jacobi_eigenvalue(
             n,
             a.as_ptr(),
             a.len(),

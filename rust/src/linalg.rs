@@ -1,6 +1,6 @@
 //! LU and Jacobi over matrices of records.
 use crate::layout::{floats, floats_mut};
-use crate::{exports, Dual64, DualNum, Matrix, Refusal};
+use crate::{exports, Dual64, DualNum, HyperDual64, Matrix, Refusal};
 
 mod library {
     /// The library's functions for matrices of one kind of record; what the lengths are, and when
@@ -8,37 +8,53 @@ mod library {
     pub trait Entries: Sized {
         fn lu(a: &[Self], f: &mut [Self], order: &mut [usize], beside: &mut usize) -> u32;
         fn solve(factors: &[Self], order: &[usize], b: &[Self], x: &mut [Self]) -> u32;
-        fn determinant(factors: &[Self], order: &[usize], swaps: usize, out: &mut Self) -> u32;
+        fn determinant(f: &[Self], order: &[usize], swaps: usize, out: &mut Self) -> u32;
         fn inverse(factors: &[Self], order: &[usize], out: &mut [Self]) -> u32;
     }
 }
 
-/// Records that matrices for [`LU`] are made of. No other type can implement it.
+/// Records that matrices for [`LU`] are made of: [`Dual64`] and [`HyperDual64`]. No other type can
+/// implement it.
 pub trait Entry: DualNum + library::Entries {}
 
-impl Entry for Dual64 {}
+macro_rules! entry {
+    ($record:ident, [$($part:ident),*],
+        $lu:ident, $solve:ident, $determinant:ident, $inverse:ident) => {
+        impl Entry for $record {}
 
-impl library::Entries for Dual64 {
-    fn lu(a: &[Self], f: &mut [Self], order: &mut [usize], beside: &mut usize) -> u32 {
-        exports::lu(order.len(), floats(a), floats_mut(f), order, beside)
-    }
+        impl library::Entries for $record {
+            fn lu(a: &[Self], f: &mut [Self], order: &mut [usize], beside: &mut usize) -> u32 {
+                exports::$lu(order.len(), floats(a), floats_mut(f), order, beside)
+            }
 
-    fn solve(factors: &[Self], order: &[usize], b: &[Self], x: &mut [Self]) -> u32 {
-        exports::solve(order.len(), floats(factors), order, floats(b), floats_mut(x))
-    }
+            fn solve(factors: &[Self], order: &[usize], b: &[Self], x: &mut [Self]) -> u32 {
+                exports::$solve(order.len(), floats(factors), order, floats(b), floats_mut(x))
+            }
 
-    fn determinant(factors: &[Self], order: &[usize], swaps: usize, out: &mut Self) -> u32 {
-        let mut det = [out.re, out.eps];
-        let number = exports::determinant(order.len(), floats(factors), order, swaps, &mut det);
-        let [re, eps] = det;
-        *out = Self { re, eps };
-        number
-    }
+            fn determinant(f: &[Self], order: &[usize], swaps: usize, out: &mut Self) -> u32 {
+                let mut det = [$(out.$part),*];
+                let number = exports::$determinant(order.len(), floats(f), order, swaps, &mut det);
+                let [$($part),*] = det;
+                *out = Self { $($part),* };
+                number
+            }
 
-    fn inverse(factors: &[Self], order: &[usize], out: &mut [Self]) -> u32 {
-        exports::inverse(order.len(), floats(factors), order, floats_mut(out))
-    }
+            fn inverse(factors: &[Self], order: &[usize], out: &mut [Self]) -> u32 {
+                exports::$inverse(order.len(), floats(factors), order, floats_mut(out))
+            }
+        }
+    };
 }
+
+entry!(Dual64, [re, eps], lu, solve, determinant, inverse);
+entry!(
+    HyperDual64,
+    [re, eps1, eps2, eps1eps2],
+    hyperdual_lu,
+    hyperdual_solve,
+    hyperdual_determinant,
+    hyperdual_inverse
+);
 
 /// LU decomposition of a square matrix of at most 32 rows.
 ///

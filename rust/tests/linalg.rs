@@ -1,5 +1,5 @@
 //! LU and its answers against each other, and the refusals.
-use evindrast::{exports, jacobi_eigenvalue, Dual64, DualNum, Matrix, Refusal, LU};
+use evindrast::{exports, jacobi_eigenvalue, Dual64, DualNum, HyperDual64, Matrix, Refusal, LU};
 
 fn matrix() -> Matrix<Dual64> {
     let x = Dual64::new;
@@ -80,4 +80,18 @@ fn a_refused_call_writes_nothing_but_lus_six() {
     let singular = [1.0, 0.0, 2.0, 0.0, 1.0, 0.0, 2.0, 0.0];
     assert_eq!(exports::lu(2, &singular, &mut factors, &mut order, &mut beside), 6);
     assert_eq!((factors, order, beside), ([0.0; 8], [0; 2], 1));
+}
+
+#[test]
+fn a_mixed_derivative_goes_through_a_solve() {
+    // (x y) z = 1 at x = 2, y = 4: z is 1/8, its mixed derivative 1/(x y)^2 = 1/64
+    let x = HyperDual64::from_re(2.0).derivative1();
+    let y = HyperDual64::from_re(4.0).derivative2();
+    let lu = LU::new(&Matrix::from_rows([[x * y]])).unwrap();
+    let z = lu.solve(&[HyperDual64::ONE]).unwrap()[0];
+    assert_eq!((z.re, z.eps1, z.eps2, z.eps1eps2), (0.125, -0.0625, -0.03125, 0.015625));
+    assert_eq!(lu.inverse()[(0, 0)].parts(), z.parts());
+    assert_eq!(lu.determinant().parts(), (x * y).parts());
+    let singular = Matrix::from_fn(2, |_, c| if c == 0 { x } else { y });
+    assert_eq!(LU::new(&singular).unwrap_err(), Refusal::Singular { column: 1 });
 }

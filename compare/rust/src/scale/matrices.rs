@@ -5,15 +5,16 @@ use compare::matrix_requests::{
     self as requests, GENERAL, LIMITS, Matrix, SYMMETRIC, explicit, explicit_symmetric,
 };
 use compare::random::Random;
-use compare::record::{DualKind, Kind, Record};
+use compare::record::{DualKind, HyperDualKind, Kind, Record};
 use compare::words::words;
-use evindrast::{Dual64, DualNum, Entry, LU, Refusal, exports, jacobi_eigenvalue};
+use evindrast::{Dual64, DualNum, Entry, HyperDual64, LU, Refusal, exports, jacobi_eigenvalue};
 
 /// LU into lent buffers of floats.
 type LentLu = fn(usize, &[f64], &mut [f64], &mut [usize], &mut usize) -> u32;
 
 pub fn all(counts: &mut Counts, cases: usize, seed: u64) {
     over::<DualKind, Dual64>(counts, cases, seed, exports::lu);
+    over::<HyperDualKind, HyperDual64>(counts, cases, seed, exports::hyperdual_lu);
     eigenvalues(counts, cases, seed);
 }
 

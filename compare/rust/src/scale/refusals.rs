@@ -15,10 +15,15 @@ const BEFORE: f64 = -7.25;
 pub fn all(counts: &mut Counts, cases: usize, seed: u64) {
     let mut random = Random::new(seed, "refusals");
     for _ in 0..cases {
-        for entry in [lu, solve, determinant, inverse, jacobi] {
-            let call = Call::new(&mut random);
-            case(counts, "refusals of matrices", "dual", &call, entry(&call));
+        for matrices in [DUAL, HYPERDUAL] {
+            for entry in [lu, solve, determinant, inverse] {
+                let call = Call::new(&mut random, matrices.parts);
+                let outcome = entry(&call, &matrices);
+                case(counts, "refusals of matrices", matrices.name, &call, outcome);
+            }
         }
+        let call = Call::new(&mut random, DUAL.parts);
+        case(counts, "refusals of Jacobi", DUAL.name, &call, jacobi(&call));
         let call = RecordCall::new(&mut random);
         case(counts, "refusals of records", "all", &call, record(&call));
         case(counts, "refusals of runs", "all", &call, run(&call));
@@ -54,9 +59,46 @@ impl<T: std::fmt::Debug> Show for T {
     }
 }
 
+/// The functions of matrices of one record, over floats.
+#[derive(Copy, Clone)]
+struct Matrices {
+    name: &'static str,
+    parts: usize,
+    lu: fn(usize, &[f64], &mut [f64], &mut [usize], &mut usize) -> u32,
+    solve: fn(usize, &[f64], &[usize], &[f64], &mut [f64]) -> u32,
+    /// Into as many of the floats as the record has parts.
+    determinant: fn(usize, &[f64], &[usize], usize, &mut [f64; 4]) -> u32,
+    inverse: fn(usize, &[f64], &[usize], &mut [f64]) -> u32,
+}
+
+const DUAL: Matrices = Matrices {
+    name: "dual",
+    parts: 2,
+    lu: exports::lu,
+    solve: exports::solve,
+    determinant: |n, factors, order, swaps, det| {
+        let [re, eps, ..] = det;
+        let mut parts = [*re, *eps];
+        let number = exports::determinant(n, factors, order, swaps, &mut parts);
+        [*re, *eps] = parts;
+        number
+    },
+    inverse: exports::inverse,
+};
+
+const HYPERDUAL: Matrices = Matrices {
+    name: "hyperdual",
+    parts: 4,
+    lu: exports::hyperdual_lu,
+    solve: exports::hyperdual_solve,
+    determinant: exports::hyperdual_determinant,
+    inverse: exports::hyperdual_inverse,
+};
+
 /// A call of a matrix function, its lengths mostly the right ones.
 #[derive(Debug)]
 struct Call {
+    parts: usize,
     n: usize,
     square: [usize; 2],
     vector: [usize; 2],
@@ -66,7 +108,7 @@ struct Call {
 }
 
 impl Call {
-    fn new(random: &mut Random) -> Self {
+    fn new(random: &mut Random, parts: usize) -> Self {
         let n = random.choose(&SIZES);
         let near = n.min(34);
         let mut length = |right: usize| match random.below(10) {
@@ -75,8 +117,8 @@ impl Call {
             2 => right / 2,
             _ => right,
         };
-        let square = [length(2 * near * near), length(2 * near * near)];
-        let vector = [length(2 * near), length(2 * near)];
+        let square = [length(parts * near * near), length(parts * near * near)];
+        let vector = [length(parts * near), length(parts * near)];
         let mut order: Vec<usize> = (0..length(near)).collect();
         random.shuffle(&mut order);
         if random.chance(20) && !order.is_empty() {
@@ -85,17 +127,17 @@ impl Call {
         }
         let swaps = random.choose(&[0, 1, 2, 3, 31, 32, 33, 34, usize::MAX, usize::MAX - 1]);
         let limit = random.choose(&[0, 1, 2, 1000, 1001, usize::MAX]);
-        Self { n, square, vector, order, swaps, limit }
+        Self { parts, n, square, vector, order, swaps, limit }
     }
 
     /// The first that holds of 1 and 2, where these lengths are floats, beside the order.
     fn size_or_length(&self, squares: &[usize], vectors: &[usize], order: bool) -> Option<u32> {
-        let n = self.n;
+        let (n, parts) = (self.n, self.parts);
         if n > 32 {
             return Some(1);
         }
-        let wrong = squares.iter().any(|length| *length != 2 * n * n)
-            || vectors.iter().any(|length| *length != 2 * n)
+        let wrong = squares.iter().any(|length| *length != parts * n * n)
+            || vectors.iter().any(|length| *length != parts * n)
             || order && self.order.len() != n;
         wrong.then_some(2)
     }
@@ -121,35 +163,35 @@ fn is_left(buffers: &[&[f64]]) -> bool {
     buffers.concat().iter().all(|x| x.to_bits() == BEFORE.to_bits())
 }
 
-fn lu(call: &Call) -> Outcome {
+fn lu(call: &Call, matrices: &Matrices) -> Outcome {
     let [mut factors, a] = call.square.map(buffer);
     let (mut order, mut beside) = (vec![99; call.order.len()], 77);
-    let number = exports::lu(call.n, &a, &mut factors, &mut order, &mut beside);
+    let number = (matrices.lu)(call.n, &a, &mut factors, &mut order, &mut beside);
     let left = is_left(&[&factors]) && order.iter().all(|row| *row == 99) && beside == 77;
     Outcome { number, left, wanted: call.size_or_length(&call.square, &[], true).unwrap_or(0) }
 }
 
-fn solve(call: &Call) -> Outcome {
+fn solve(call: &Call, matrices: &Matrices) -> Outcome {
     let [factors, _] = call.square.map(buffer);
     let [b, mut x] = call.vector.map(buffer);
-    let number = exports::solve(call.n, &factors, &call.order, &b, &mut x);
+    let number = (matrices.solve)(call.n, &factors, &call.order, &b, &mut x);
     let wanted = call.size_or_length(&call.square[..1], &call.vector, true);
     let wanted = wanted.or_else(|| call.not_an_order()).unwrap_or(0);
     Outcome { number, left: is_left(&[&x]), wanted }
 }
 
-fn determinant(call: &Call) -> Outcome {
+fn determinant(call: &Call, matrices: &Matrices) -> Outcome {
     let [factors, _] = call.square.map(buffer);
-    let mut det = [BEFORE; 2];
-    let number = exports::determinant(call.n, &factors, &call.order, call.swaps, &mut det);
+    let mut det = [BEFORE; 4];
+    let number = (matrices.determinant)(call.n, &factors, &call.order, call.swaps, &mut det);
     let wanted = call.size_or_length(&call.square[..1], &[], true);
     let wanted = wanted.or_else(|| call.not_an_order()).or_else(|| call.wrong_swaps());
     Outcome { number, left: is_left(&[&det]), wanted: wanted.unwrap_or(0) }
 }
 
-fn inverse(call: &Call) -> Outcome {
+fn inverse(call: &Call, matrices: &Matrices) -> Outcome {
     let [factors, mut out] = call.square.map(buffer);
-    let number = exports::inverse(call.n, &factors, &call.order, &mut out);
+    let number = (matrices.inverse)(call.n, &factors, &call.order, &mut out);
     let wanted = call.size_or_length(&call.square, &[], true);
     let wanted = wanted.or_else(|| call.not_an_order()).unwrap_or(0);
     Outcome { number, left: is_left(&[&out]), wanted }
