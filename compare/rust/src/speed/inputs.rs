@@ -1,53 +1,60 @@
 //! The inputs, each in the port's form and in the Rust's.
-use compare::original::Dual;
 use compare::random::Random;
+use compare::record::{Kind, Record};
 use nalgebra::{Dyn, OMatrix, OVector, U1};
 
-pub type Entry = Dual<f64>;
-pub type Square = OMatrix<Entry, Dyn, Dyn>;
-pub type Column = OVector<Entry, Dyn>;
+pub type Entry<K> = <K as Kind>::Record<f64>;
+pub type Square<K> = OMatrix<Entry<K>, Dyn, Dyn>;
+pub type Column<K> = OVector<Entry<K>, Dyn>;
 
-/// A matrix of order n that is far from singular and needs swaps, a right side, and a symmetric matrix.
+/// A matrix of order n that is far from singular and needs swaps, a right side, and a symmetric matrix: the floats of
+/// their records.
 pub struct Input {
     pub n: usize,
-    pub a: Vec<Entry>,
-    pub b: Vec<Entry>,
-    pub symmetric: Vec<Entry>,
+    pub a: Vec<f64>,
+    pub b: Vec<f64>,
+    pub symmetric: Vec<f64>,
 }
 
 impl Input {
-    pub fn new(random: &mut Random, n: usize) -> Self {
+    pub fn new<K: Kind>(random: &mut Random, n: usize) -> Self {
+        let width = K::PARTS;
         let mut large: Vec<usize> = (0..n).collect();
         random.shuffle(&mut large);
-        let mut a = entries(random, n * n);
-        (0..n).for_each(|r| a[r * n + large[r]].re += n as f64);
-        let mut symmetric = entries(random, n * n);
+        let mut a = floats(random, n * n * width);
+        (0..n).for_each(|r| a[(r * n + large[r]) * width] += n as f64);
+        let mut symmetric = floats(random, n * n * width);
         for r in 0..n {
             for c in 0..r {
-                symmetric[r * n + c] = symmetric[c * n + r];
+                let upper = (c * n + r) * width;
+                symmetric.copy_within(upper..upper + width, (r * n + c) * width);
             }
         }
-        Self { n, a, b: entries(random, n), symmetric }
+        Self { n, a, b: floats(random, n * width), symmetric }
     }
 }
 
 /// Parts between -1 and 1.
-fn entries(random: &mut Random, count: usize) -> Vec<Entry> {
-    (0..count).map(|_| Dual { re: random.unit(), eps: random.unit() }).collect()
+fn floats(random: &mut Random, count: usize) -> Vec<f64> {
+    (0..count).map(|_| random.unit()).collect()
 }
 
 /// Records as the Rust stores them.
-pub fn square(n: usize, entries: &[Entry]) -> Square {
-    OMatrix::from_iterator_generic(Dyn(n), Dyn(n), entries.iter().copied())
+pub fn square<K: Kind>(n: usize, floats: &[f64]) -> Square<K> {
+    OMatrix::from_iterator_generic(Dyn(n), Dyn(n), records::<K>(floats))
 }
 
-pub fn column(entries: &[Entry]) -> Column {
-    OVector::from_iterator_generic(Dyn(entries.len()), U1, entries.iter().copied())
+pub fn column<K: Kind>(n: usize, floats: &[f64]) -> Column<K> {
+    OVector::from_iterator_generic(Dyn(n), U1, records::<K>(floats))
 }
 
-/// Records as the port takes them: two floats each.
-pub fn flat(entries: &[Entry]) -> Vec<f64> {
-    entries.iter().flat_map(|entry| [entry.re, entry.eps]).collect()
+fn records<K: Kind>(floats: &[f64]) -> impl Iterator<Item = Entry<K>> {
+    floats.chunks(K::PARTS).map(Record::<f64>::of)
+}
+
+/// Records as the port takes them.
+pub fn flat<K: Kind>(entries: &[Entry<K>]) -> Vec<f64> {
+    entries.iter().flat_map(Record::<f64>::parts).collect()
 }
 
 /// Floats of every magnitude that have a root.

@@ -2,14 +2,17 @@
 //! once both have given the same words. docs/SPEED.md says what is counted.
 mod case;
 mod inputs;
+mod port;
 mod records;
 mod timing;
 
 use case::{Case, LIMIT};
 use compare::original::linalg::{LU, jacobi_eigenvalue};
 use compare::random::Random;
-use evindrast::exports as port;
+use compare::record::{DualKind, HyperDualKind};
+use evindrast::exports;
 use inputs::{Input, Square};
+use port::Port;
 use std::hint::black_box;
 use timing::{Times, in_turn};
 
@@ -21,16 +24,20 @@ const INPUTS: usize = 16;
 fn main() {
     let mut random = Random::new(1, "speed");
     let roots = inputs::roots(&mut random, 4096);
-    let mut cases =
-        |n| -> Vec<Case> { (0..INPUTS).map(|_| Case::new(&Input::new(&mut random, n))).collect() };
-    let cases: Vec<Vec<Case>> = SIZES.iter().map(|n| cases(*n)).collect();
-
-    let compared: usize = cases.iter().flatten().map(Case::compare).sum();
+    let dual = cases::<DualKind>(&mut random);
+    let hyperdual = cases::<HyperDualKind>(&mut random);
+    let pairs = records::all(&mut random);
     roots
         .iter()
-        .for_each(|x| assert_eq!(port::sqrt(*x).to_bits(), x.sqrt().to_bits(), "root of {x}"));
-    let pairs = records::all(&mut random);
-    let compared = compared + roots.len() + pairs.iter().map(|pair| pair.compared).sum::<usize>();
+        .for_each(|x| assert_eq!(exports::sqrt(*x).to_bits(), x.sqrt().to_bits(), "root of {x}"));
+    let compared = roots.len()
+        + dual
+            .iter()
+            .flatten()
+            .map(|case| case.compare() + case.compare_eigenvalues())
+            .sum::<usize>()
+        + hyperdual.iter().flatten().map(Case::compare).sum::<usize>()
+        + pairs.iter().map(|pair| pair.compared).sum::<usize>();
     println!("{compared} words compared, 0 different");
 
     println!("| function | n | port, ns | Rust, ns | ratio | half of the runs | fastest runs |");
@@ -40,8 +47,33 @@ fn main() {
         print(&format!("product, {}", pair.name), "", &(pair.product)());
         print(&format!("quotient, {}", pair.name), "", &(pair.quotient)());
     }
-    for (name, times) in FUNCTIONS {
-        cases.iter().for_each(|cases| print(name, &cases[0].n.to_string(), &times(cases)));
+    print_all("", &functions(), &dual);
+    print_all("", &[("Jacobi", jacobi)], &dual);
+    print_all(" of hyperdual", &functions(), &hyperdual);
+}
+
+/// The inputs of every size.
+fn cases<K: Port>(random: &mut Random) -> Vec<Vec<Case<K>>> {
+    let of_size = |n: &usize| (0..INPUTS).map(|_| Case::new(Input::new::<K>(random, *n))).collect();
+    SIZES.iter().map(of_size).collect()
+}
+
+type Timed<K> = fn(&[Case<K>]) -> Times;
+
+fn functions<K: Port>() -> [(&'static str, Timed<K>); 5] {
+    [
+        ("LU", lu),
+        ("LU, Rust's copy counted", lu_with_copy),
+        ("solve", solve),
+        ("determinant", determinant),
+        ("inverse", inverse),
+    ]
+}
+
+fn print_all<K: Port>(of: &str, functions: &[(&str, Timed<K>)], cases: &[Vec<Case<K>>]) {
+    for (name, times) in functions {
+        let name = format!("{name}{of}");
+        cases.iter().for_each(|cases| print(&name, &cases[0].n.to_string(), &times(cases)));
     }
 }
 
@@ -51,89 +83,80 @@ fn print(name: &str, n: &str, times: &Times) {
     println!("| {low:.2} to {high:.2} | {fastest:.2} |");
 }
 
-type Timed = fn(&[Case]) -> Times;
-
-const FUNCTIONS: [(&str, Timed); 6] = [
-    ("LU", lu),
-    ("LU, Rust's copy counted", lu_with_copy),
-    ("solve", solve),
-    ("determinant", determinant),
-    ("inverse", inverse),
-    ("Jacobi", jacobi),
-];
-
 fn root(numbers: &[f64]) -> Times {
     let number = |i: usize| black_box(numbers[i % numbers.len()]);
-    in_turn(|i| _ = black_box(port::sqrt(number(i))), |i| i, |i| _ = black_box(number(i).sqrt()))
+    in_turn(|i| _ = black_box(exports::sqrt(number(i))), |i| i, |i| _ = black_box(number(i).sqrt()))
 }
 
-fn lu_port(cases: &[Case]) -> impl FnMut(usize) {
+fn lu_port<K: Port>(cases: &[Case<K>]) -> impl FnMut(usize) {
     let n = cases[0].n;
-    let (mut factors, mut order, mut swaps) = (vec![0.0; n * n * 2], vec![0; n], 0);
+    let (mut factors, mut order, mut swaps) = (vec![0.0; cases[0].a.len()], vec![0; n], 0);
     move |i| {
         let case = &cases[i % cases.len()];
-        black_box(port::lu(n, black_box(&case.a), &mut factors, &mut order, &mut swaps));
+        black_box(K::lu(n, black_box(&case.a), &mut factors, &mut order, &mut swaps));
     }
 }
 
-fn lu(cases: &[Case]) -> Times {
+fn lu<K: Port>(cases: &[Case<K>]) -> Times {
     let owned = |i: usize| cases[i % cases.len()].rust_a.clone();
-    in_turn(lu_port(cases), owned, |a: Square| _ = black_box(LU::new(black_box(a))))
+    in_turn(lu_port(cases), owned, |a: Square<K>| _ = black_box(LU::new(black_box(a))))
 }
 
-fn lu_with_copy(cases: &[Case]) -> Times {
+fn lu_with_copy<K: Port>(cases: &[Case<K>]) -> Times {
     let lent = |i: usize| &cases[i % cases.len()].rust_a;
-    in_turn(lu_port(cases), lent, |a: &Square| _ = black_box(LU::new(black_box(a).clone())))
+    in_turn(lu_port(cases), lent, |a: &Square<K>| _ = black_box(LU::new(black_box(a).clone())))
 }
 
-fn solve(cases: &[Case]) -> Times {
+fn solve<K: Port>(cases: &[Case<K>]) -> Times {
     let case = |i: usize| black_box(&cases[i % cases.len()]);
-    let mut x = vec![0.0; cases[0].n * 2];
+    let mut x = vec![0.0; cases[0].b.len()];
     in_turn(
         |i| {
             let Case { n, factors, order, b, .. } = case(i);
-            black_box(port::solve(*n, factors, order, b, &mut x));
+            black_box(K::solve(*n, factors, order, b, &mut x));
         },
         case,
         |case| _ = black_box(case.rust_lu.solve(&case.rust_b)),
     )
 }
 
-fn determinant(cases: &[Case]) -> Times {
+fn determinant<K: Port>(cases: &[Case<K>]) -> Times {
     let case = |i: usize| black_box(&cases[i % cases.len()]);
-    let mut det = [0.0; 2];
+    let mut det = vec![0.0; K::PARTS];
     in_turn(
         |i| {
             let Case { n, factors, order, swaps, .. } = case(i);
-            black_box(port::determinant(*n, factors, order, *swaps, &mut det));
+            black_box(K::determinant(*n, factors, order, *swaps, &mut det));
         },
         case,
         |case| _ = black_box(case.rust_lu.determinant()),
     )
 }
 
-fn inverse(cases: &[Case]) -> Times {
+fn inverse<K: Port>(cases: &[Case<K>]) -> Times {
     let case = |i: usize| black_box(&cases[i % cases.len()]);
     let mut out = vec![0.0; cases[0].a.len()];
     in_turn(
         |i| {
             let Case { n, factors, order, .. } = case(i);
-            black_box(port::inverse(*n, factors, order, &mut out));
+            black_box(K::inverse(*n, factors, order, &mut out));
         },
         case,
         |case| _ = black_box(case.rust_lu.inverse()),
     )
 }
 
-fn jacobi(cases: &[Case]) -> Times {
+fn jacobi(cases: &[Case<DualKind>]) -> Times {
     let n = cases[0].n;
-    let (mut values, mut vectors, mut sweeps) = (vec![0.0; n * 2], vec![0.0; n * n * 2], 0);
+    let (mut values, mut vectors) = (vec![0.0; n * 2], vec![0.0; n * n * 2]);
+    let mut sweeps = 0;
     in_turn(
         |i| {
             let a = black_box(&cases[i % cases.len()].symmetric);
-            black_box(port::jacobi_eigenvalue(n, a, LIMIT, &mut values, &mut vectors, &mut sweeps));
+            let (values, vectors) = (&mut values, &mut vectors);
+            black_box(exports::jacobi_eigenvalue(n, a, LIMIT, values, vectors, &mut sweeps));
         },
         |i| cases[i % cases.len()].rust_symmetric.clone(),
-        |a: Square| _ = black_box(jacobi_eigenvalue(black_box(a), LIMIT)),
+        |a: Square<DualKind>| _ = black_box(jacobi_eigenvalue(black_box(a), LIMIT)),
     )
 }
