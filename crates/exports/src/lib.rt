@@ -1,4 +1,5 @@
 // The library for C and Rust to link: each function here is one of the crates' own under its promise. Slices cross as a pointer and a length, and a lent
 // buffer overlaps no other. An answer leaves as document 01's number, 0 where the call is done; a call that is refused writes nothing, but for 6 (see `evindrast_lu`).
 mod linalg;
+mod record;
 mod root;
