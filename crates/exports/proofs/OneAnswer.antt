@@ -10,6 +10,12 @@ use Rattle.exports.proofs.root.evindrast_sqrt.Kinds as sqrt-k
 use Rattle.exports.proofs.root.evindrast_sqrt.Reads as sqrt-r
 use Rattle.exports.proofs.root.evindrast_sqrt_word.Kinds as sqrt-word-k
 use Rattle.exports.proofs.root.evindrast_sqrt_word.Reads as sqrt-word-r
+use Rattle.exports.proofs.record.evindrast_record.Kinds as record-k
+use Rattle.exports.proofs.record.evindrast_record.Reads as record-r
+use Rattle.exports.proofs.record.evindrast_sum.Kinds as sum-k
+use Rattle.exports.proofs.record.evindrast_sum.Reads as sum-r
+use Rattle.exports.proofs.record.evindrast_product.Kinds as product-k
+use Rattle.exports.proofs.record.evindrast_product.Reads as product-r
 use Rattle.exports.proofs.linalg.evindrast_lu.Kinds as lu-k
 use Rattle.exports.proofs.linalg.evindrast_lu.Reads as lu-r
 use Rattle.exports.proofs.linalg.evindrast_solve.Kinds as solve-k
@@ -106,4 +112,25 @@ hyper-inverse-only κs a x y v w h p q =
     let e = p ∙ sym q in (
       first e,
       λ i. atExit (endedOf 3 hyper-inverse-k.ps hyper-inverse-k.r) κs a (v .0, (v .1 .0, (v .1 .1 .0, (rest e i, tt)))),
+    )
+
+pub record-only : Only 3 record-k.ps record-k.r record-r.Pre record-r.Post
+record-only κs a x y v w h p q =
+    let e = p ∙ sym q in (
+      first e,
+      λ i. atExit (endedOf 3 record-k.ps record-k.r) κs a (v .0, (v .1 .0, (v .1 .1 .0, (v .1 .1 .1 .0, (v .1 .1 .1 .1 .0, (rest e i, tt)))))),
+    )
+
+pub sum-only : Only 2 sum-k.ps sum-k.r sum-r.Pre sum-r.Post
+sum-only κs a x y v w h p q =
+    let e = p ∙ sym q in (
+      first e,
+      λ i. atExit (endedOf 2 sum-k.ps sum-k.r) κs a (v .0, (v .1 .0, (rest e i, tt))),
+    )
+
+pub product-only : Only 2 product-k.ps product-k.r product-r.Pre product-r.Post
+product-only κs a x y v w h p q =
+    let e = p ∙ sym q in (
+      first e,
+      λ i. atExit (endedOf 2 product-k.ps product-k.r) κs a (v .0, (v .1 .0, (rest e i, tt))),
     )
