@@ -3,7 +3,6 @@
 mod columns;
 mod substitution;
 
-use dual::Dual;
 use dual::DualAnswer;
 pub use matrices::LuAnswer;
 pub use matrices::SolveAnswer;
@@ -67,11 +66,11 @@ pub fn solve(n: usize, factors: &[f64], order: &[usize], b: &[f64], x: &mut [f64
 pub fn determinant(n: usize, factors: &[f64], order: &[usize], swaps: usize) -> DualAnswer
     ensures { λ r. ⌜ outcome r ≡ determinantLeft dualAlgebra dualLayout n (now (factors .entry)) (now (order .entry)) swaps ⌝ }
 {
-    let number = matrices::refusal::determinant(2, n, factors.len(), order, swaps);
+    let number = matrices::refusal::determinant(2, n, factors.len(), order.len());
     if number != 0 {
         return DualAnswer::Refused(number);
     }
-    DualAnswer::Value(columns::determinant_of(n, factors, swaps))
+    columns::determinant_of(n, factors, order, swaps)
 }
 
 // The inverse, from the factors and the order. Refused: 1, 2, 7.

@@ -20,6 +20,7 @@ use Rattle.matrices.specs.Lu.{Run, going, singular, luOf}
 use Rattle.matrices.specs.Order.{Order, isOrder, parity, isOdd, differ}
 use Rattle.matrices.specs.SameReals.{SameLu, SameSolve}
 use Rattle.matrices.specs.Solve.{solveOf}
+use Rattle.matrices.specs.Walk.{lengthsRefusal}
 use Rattle.matrices.proofs.Parity.{Ordered, swapsIn, lu-ordered, lu-few}
 use Rattle.matrices.proofs.Permutation.{both, isOrder-order, order-isOrder}
 use Rattle.matrices.proofs.Slopes.{mapRun, lu-map, solve-map, inverse-map, determinant-map}
@@ -48,7 +49,7 @@ lu-fits w n a f o e =
     let y = both (eqb f (n * n * w)) (eqb o n) (x .1) in
     record { small = ltb-false 32 n (s .0); input = eqb-true _ _ (x .0); factors = eqb-true _ _ (y .0); order = eqb-true _ _ (y .1) }
 
--- what solve, inverse and determinant have in common
+-- what solve and inverse have in common
 pub record LentFits (w n f : ℕ) (p : List ℕ) : Type 0 where
   pub small : n ≤ 32
   pub factors : f ≡ n * n * w
@@ -73,12 +74,12 @@ inverse-fits w n f o x e =
     let q = both (eqb (length o) n) (eqb x (n * n * w)) (p .1) in
     (record { small = ltb-false 32 n (s .0); factors = eqb-true _ _ (p .0); order = isOrder-order n o (eqb-true _ _ (q .0)) (allowed (isOrder n o) 6 0 (l .1) .0) }, eqb-true _ _ (q .1))
 
-pub determinant-fits : (w n factors : ℕ) (order : List ℕ) (swaps : ℕ) → determinantRefusal w n factors order swaps ≡ 0 → LentFits w n factors order
-determinant-fits w n f o swaps e =
+pub determinant-fits : (w n factors order : ℕ) → lengthsRefusal w n factors order ≡ 0 → (n ≤ 32) × ((factors ≡ n * n * w) × (order ≡ n))
+determinant-fits w n f o e =
     let s = passed (ltb 32 n) 0 _ e in
-    let l = allowed (eqb f (n * n * w) && eqb (length o) n) 1 (cond (isOrder n o) (swapsRefusal o swaps) 7) (s .1) in
-    let p = both (eqb f (n * n * w)) (eqb (length o) n) (l .0) in
-    record { small = ltb-false 32 n (s .0); factors = eqb-true _ _ (p .0); order = isOrder-order n o (eqb-true _ _ (p .1)) (allowed (isOrder n o) 6 (swapsRefusal o swaps) (l .1) .0) }
+    let l = allowed (eqb f (n * n * w) && eqb o n) 1 0 (s .1) in
+    let p = both (eqb f (n * n * w)) (eqb o n) (l .0) in
+    (ltb-false 32 n (s .0), (eqb-true _ _ (p .0), eqb-true _ _ (p .1)))
 
 -- ---- the two ways out of an entry
 

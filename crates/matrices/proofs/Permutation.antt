@@ -33,10 +33,6 @@ all-at P [] q h a = absurd (omega arith)
 all-at P (y ∷ l) zero h a = a .0
 all-at P (y ∷ l) (suc q) h a = all-at P l q (omega arith) (a .1)
 
-pub all-map : (P Q : ℕ → Type 0) → ((v : ℕ) → P v → Q v) → (l : List ℕ) → All P l → All Q l
-all-map P Q f [] a = tt
-all-map P Q f (y ∷ l) a = (f y (a .0), all-map P Q f l (a .1))
-
 fore-distinct : (x : ℕ) (l : List ℕ) (q : ℕ) → q < length l → Distinct (x ∷ l) → Distinct (fore x l q)
 fore-distinct x [] q h a = absurd (omega arith)
 fore-distinct x (y ∷ l) zero h a = (((λ e. a .0 .0 (sym e)), a .1 .0), (a .0 .1, a .1 .1))

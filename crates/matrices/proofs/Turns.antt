@@ -1,13 +1,15 @@
 -- The code over any record, function by function: its loops' invariants, a turn of each, and what a function's calls amount to. Each record's proofs cite these. Assumes nothing.
 use Prim.Native.Nat.{ℕ, _+_, _-_, _*_, _%_, _≤_, _<_}
 use mathlib.Core.Path.{_≡_, refl, ap, sym, subst, _∙_}
+use mathlib.Core.Bool.{Bool, true, false, cond, _&&_}
 use mathlib.Core.List.{List}
 use native.Mathlib.Nat.{mul-le-mul-right}
 use native.Mathlib.Omega.{arith}
+use lib.Dec.{ltb, eqb}
 use lib.ListN.{length, getD, set, replicate}
 use lib.Seq.{sets}
 use lib.Ieee.{Float}
-use borrow.Author.Tests.{eq-eqb, ne-eqb}
+use borrow.Author.Tests.{le-ltb, eq-eqb, ne-eqb}
 use Rattle.real.specs.Operations as float
 use Rattle.algebra.specs.Algebra.{Algebra, zeroOf, oneOf}
 use Rattle.algebra.specs.Flat.{Layout, tabulate, decode, encode}
@@ -16,23 +18,26 @@ use Rattle.algebra.specs.Outcome.{value, refused}
 use Rattle.algebra.proofs.Flat.{decode-length, decode-size, record-there, decode-at, decode-store, encode-decode, decode-blank, tabulate-length, tabulate-at}
 use Rattle.algebra.proofs.Inside.{getD-inside}
 use Rattle.algebra.proofs.Loop.{upto-turn, upto-end}
-use Rattle.matrices.specs.Entries.{luRefusal, solveRefusal, inverseRefusal, determinantRefusal, LuLeft, luAnswered, luFinish, luLeft, solveAnswered, solveLeft, inverseLeft, determinantLeft}
+use Rattle.matrices.specs.Entries.{luRefusal, solveRefusal, inverseRefusal, swapsRefusal, determinantRefusal, LuLeft, luAnswered, luFinish, luLeft, solveAnswered, solveLeft, inverseLeft, determinantLeft}
 use Rattle.matrices.specs.Determinant.{diagonal, determinantOf}
 use Rattle.matrices.specs.Inverse.{units, inverseOf}
 use Rattle.matrices.specs.Lu.{going, subtract, reduceRow, reduce, reduceRun, column, numbers, luOf}
 use Rattle.matrices.specs.Matrix.{Square, Row, cell, store}
-use Rattle.matrices.specs.Order.{Order}
+use Rattle.matrices.specs.Order.{Order, isOrder, isOdd}
 use Rattle.matrices.specs.Solve.{Strided, less, eliminate, forwardFrom, backRow, back, substituteFrom, solveOf}
 use Rattle.matrices.specs.Steps.{runAfter, swapsOf}
+use Rattle.matrices.specs.Walk.{isBarred, marksNone, marksWith, lengthsRefusal, countRefusal}
+use Rattle.matrices.specs.declared.Marks.{Marks}
 use Rattle.matrices.specs.declared.Step.{Step}
 use Rattle.matrices.specs.declared.Step.the-variants.{Singular, Going}
-use Rattle.matrices.proofs.Answers.{lu-fits, solve-fits, inverse-fits, determinant-fits, lu-done, solve-done, inverse-done, determinant-done, finish-done, finish-singular}
+use Rattle.matrices.proofs.Answers.{lu-fits, solve-fits, inverse-fits, determinant-fits, lu-done, solve-done, inverse-done, determinant-done, determinant-refused, finish-done, finish-singular}
 use Rattle.matrices.proofs.Fill.{Filled, filled-more, filled-all}
 use Rattle.matrices.proofs.Inner.{subtract-by, multiplier-stays, multiplier-is, forward-by, backRow-by}
 use Rattle.matrices.proofs.Laws.{Laws}
 use Rattle.matrices.proofs.Lu.{run-stops}
 use Rattle.matrices.proofs.Odd.{odd-mod}
 use Rattle.matrices.proofs.Starts.{solve-by, inverse-by}
+use Rattle.matrices.proofs.Walk.{free-below, Passing, passing, pass-turn, pass-stop, pass-end, Pairing, pairing, pair-turn, pair-end}
 
 module _ {R : Type 0} {A : Algebra R} {L : Layout R} (Q : Laws A L) where
   -- ---- records in floats
@@ -172,7 +177,7 @@ module _ {R : Type 0} {A : Algebra R} {L : Layout R} (Q : Laws A L) where
   pub columns-end : (n : ℕ) (a₀ a : List Float) (order₀ order : List ℕ) (swaps i : ℕ) → Columns n a₀ a order₀ order swaps i → n ≤ i → luOf A n (decode L a₀) ≡ going (decode L a) order swaps
   columns-end n a₀ a order₀ order swaps i c h = sym (upto-end i n (column A n) (going (decode L a) order swaps) h (c .rest))
 
-  -- ---- the determinant: the product of the diagonal, negated where the count is odd
+  -- ---- the determinant: the product of the diagonal and the tests of the order in one walk, then the swap count and the sign
 
   abbrev pub Multiplying : ℕ → List Float → R → ℕ → Type 0
   Multiplying n a x i = upto i n (λ k y. A .mul y (cell A n (decode L a) k k)) x ≡ diagonal A n (decode L a)
@@ -188,13 +193,56 @@ module _ {R : Type 0} {A : Algebra R} {L : Layout R} (Q : Laws A L) where
   pub multiply-end : (n : ℕ) (a : List Float) (x : R) (i : ℕ) → Multiplying n a x i → n ≤ i → x ≡ diagonal A n (decode L a)
   multiply-end n a x i m h = upto-end i n _ x h m
 
-  pub determinant-odd : (n : ℕ) (a : List Float) (swaps : ℕ) (x y : R) → swaps % 2 ≡ 1 → x ≡ diagonal A n (decode L a) → y ≡ A .neg x → y ≡ determinantOf A n (decode L a) swaps
-  unfolding determinantOf
-  determinant-odd n a swaps x y h e f = rw (sym (odd-mod swaps) ∙ eq-eqb _ _ h) (f ∙ ap (A .neg) e)
+  pub sign-odd : (swaps : ℕ) (x y : R) → swaps % 2 ≡ 1 → y ≡ A .neg x → y ≡ cond (isOdd swaps) (A .neg x) x
+  sign-odd swaps x y h e = rw (sym (odd-mod swaps) ∙ eq-eqb _ _ h) e
 
-  pub determinant-even : (n : ℕ) (a : List Float) (swaps : ℕ) (x : R) → (swaps % 2 ≡ 1 → ⊥) → x ≡ diagonal A n (decode L a) → x ≡ determinantOf A n (decode L a) swaps
-  unfolding determinantOf
-  determinant-even n a swaps x h e = rw (sym (odd-mod swaps) ∙ ne-eqb _ _ h) e
+  pub sign-even : (swaps : ℕ) (x : R) → (swaps % 2 ≡ 1 → ⊥) → x ≡ cond (isOdd swaps) (A .neg x) x
+  sign-even swaps x h = rw (sym (odd-mod swaps) ∙ ne-eqb _ _ h) refl
+
+  -- before turn i of the walk that tests the order as it multiplies
+  pub record Walking (n : ℕ) (a : List Float) (o : List ℕ) (m : Marks) (x : R) (i : ℕ) : Type 0 where
+    pub passed : Passing n o (m .seen) i
+    pub paired : Pairing o (m .above) (m .odd) i
+    pub product : Multiplying n a x i
+
+  pub walking : (n : ℕ) (a : List Float) (o : List ℕ) → Walking n a o marksNone (oneOf A) 0
+  walking n a o = record { passed = passing n o; paired = pairing o; product = multiplying n a }
+
+  -- what is not barred has a bit of a word
+  pub walk-bit : (n : ℕ) (a : List Float) (seen x : ℕ) (t : Bool) → Square (L .width) n a → t ≡ isBarred n seen x → t ≡ false → x < 64
+  walk-bit n a seen x t q et free = let z = q .small in omega (arith, free-below n seen x (sym et ∙ free))
+
+  pub walk-turn : (n : ℕ) (a : List Float) (o : List ℕ) (m m′ : Marks) (x u y : R) (i : ℕ) (t : Bool) → Walking n a o m x i → i < n → length o ≡ n → t ≡ isBarred n (m .seen) (getD o i 0) → t ≡ false
+      → m′ ≡ marksWith m (getD o i 0) → u ≡ getD (decode L a) (i * n + i) (zeroOf A) → y ≡ A .mul x u → Walking n a o m′ y (i + 1)
+  walk-turn n a o m m′ x u y i t w h long et free em eu ey = subst (λ (k : Marks). Walking n a o k y (i + 1)) (sym em) record {
+    passed = pass-turn n o (m .seen) i (w .passed) (omega arith) (sym et ∙ free);
+    paired = pair-turn o (m .above) (m .odd) i (w .paired) (omega arith);
+    product = multiply-turn n a x u y i (w .product) h eu ey;
+  }
+
+  -- the lengths are right: 7 or 8 is left
+  right : (n : ℕ) (a : List Float) (o : List ℕ) (s : ℕ) → Square (L .width) n a → length o ≡ n → determinantRefusal (L .width) n (length a) o s ≡ cond (isOrder n o) (swapsRefusal o s) 7
+  right n a o s q long = rw (le-ltb 32 n (q .small), eq-eqb _ _ (q .full), eq-eqb _ _ long) refl
+
+  pub walk-stop : (n : ℕ) (a : List Float) (o : List ℕ) (s : ℕ) (m : Marks) (x : R) (i : ℕ) (t : Bool) → Walking n a o m x i → i < n → Square (L .width) n a → length o ≡ n → t ≡ isBarred n (m .seen) (getD o i 0) → t ≡ true
+      → refused 7 ≡ determinantLeft A L n a o s
+  walk-stop n a o s m x i t w h q long et barred =
+      determinant-refused A L n a o s 7 (sym (right n a o s q long ∙ ap (λ (t : Bool). cond t (swapsRefusal o s) 7) (pass-stop n o (m .seen) i (w .passed) (omega arith) (sym et ∙ barred)))) (λ z. omega arith)
+
+  module _ (n : ℕ) (a : List Float) (o : List ℕ) (s : ℕ) (m : Marks) (x : R) (i k : ℕ) (w : Walking n a o m x i) (h : n ≤ i) (q : Square (L .width) n a) (long : length o ≡ n) (e : k ≡ countRefusal (m .odd) s) where
+    counted : k ≡ determinantRefusal (L .width) n (length a) o s
+    counted =
+        e ∙ ap (λ (t : Bool). countRefusal t s) (pair-end o (m .above) (m .odd) i (w .paired) (omega arith))
+        ∙ sym (right n a o s q long ∙ ap (λ (t : Bool). cond t (swapsRefusal o s) 7) (pass-end n o (m .seen) i (w .passed) (omega arith)))
+
+    pub walk-refused : (k ≡ 0 → ⊥) → refused k ≡ determinantLeft A L n a o s
+    walk-refused ne = determinant-refused A L n a o s k counted ne
+
+    pub walk-end : (y : R) → k ≡ 0 → y ≡ cond (isOdd s) (A .neg x) x → value y ≡ determinantLeft A L n a o s
+    unfolding determinantOf
+    walk-end y z ey =
+        ap (λ (v : R). value v) (ey ∙ ap (λ (v : R). cond (isOdd s) (A .neg v) v) (multiply-end n a x i (w .product) h))
+        ∙ determinant-done A L n a o s (sym counted ∙ z)
 
   -- ---- LU whole: a copy, the order numbered, the columns, and both buffers cleared where it is singular
 
@@ -362,11 +410,16 @@ module _ {R : Type 0} {A : Algebra R} {L : Layout R} (Q : Laws A L) where
   inverse-answers n f o x x′ k e z h p =
       ap (solveAnswered (value tt)) (parts-of x′ (n * n) _ (h ∙ inverse-allowed n f o x k e z .1 .1 .full) p) ∙ inverse-done A L n f o x (sym e ∙ z)
 
-  pub determinant-allowed : (n : ℕ) (f : List Float) (o : List ℕ) (s k : ℕ) → k ≡ determinantRefusal (L .width) n (length f) o s → k ≡ 0 → Square (L .width) n f
-  determinant-allowed n f o s k e z =
-      let t = determinant-fits (L .width) n (length f) o s (sym e ∙ z) in
-      square-of n f (t .small) (t .factors)
+  pub determinant-allowed : (n : ℕ) (f : List Float) (order k : ℕ) → k ≡ lengthsRefusal (L .width) n (length f) order → k ≡ 0 → Square (L .width) n f × (order ≡ n)
+  determinant-allowed n f order k e z =
+      let t = determinant-fits (L .width) n (length f) order (sym e ∙ z) in
+      (square-of n f (t .0) (t .1 .0), t .1 .1)
 
-  pub determinant-answers : (n : ℕ) (f : List Float) (o : List ℕ) (s k : ℕ) (x : R) → k ≡ determinantRefusal (L .width) n (length f) o s → k ≡ 0
-      → x ≡ determinantOf A n (decode L f) s → value x ≡ determinantLeft A L n f o s
-  determinant-answers n f o s k x e z p = ap (λ (y : R). value y) p ∙ determinant-done A L n f o s (sym e ∙ z)
+  pub determinant-unfit : (n : ℕ) (f : List Float) (o : List ℕ) (s k : ℕ) → k ≡ lengthsRefusal (L .width) n (length f) (length o) → (k ≡ 0 → ⊥) → refused k ≡ determinantLeft A L n f o s
+  determinant-unfit n f o s k e ne =
+      determinant-refused A L n f o s k (go (ltb 32 n) (eqb (length f) (n * n * L .width) && eqb (length o) n) e) ne
+    where
+      go : (t b : Bool) → k ≡ cond t 1 (cond b 0 2) → k ≡ cond t 1 (cond b (cond (isOrder n o) (swapsRefusal o s) 7) 2)
+      go true b e = e
+      go false true e = absurd (ne e)
+      go false false e = e

@@ -7,5 +7,6 @@ pub mod Determinant
 pub mod Inverse
 pub mod Order
 pub mod Entries
+pub mod Walk
 pub mod SameReals
 pub mod Answers

@@ -11,6 +11,14 @@ pub struct Pivot {
     pub row: usize,
 }
 
+// What has come of an order on a walk over it. Bit x of `seen`: whether x has. Bit x of `above`: whether an odd number of what has come is above x.
+// `odd`: whether an odd number of its pairs stand the wrong way round.
+pub struct Marks {
+    pub seen: u64,
+    pub above: u64,
+    pub odd: bool,
+}
+
 // Where a column of LU leaves the run.
 pub enum Step {
     Singular { column: usize },

@@ -1,10 +1,12 @@
 // The order of the rows: numbered, cleared, exchanged, and the tests that a lent one is put to.
+use super::Marks;
 ghost use mathlib.Core.Path.{_≡_};
 ghost use Prim.Native.Nat.{ℕ, _<_, _≤_};
 ghost use lib.ListN.{length, replicate};
 ghost use Rattle.matrices.specs.Matrix.{exchange};
 ghost use Rattle.matrices.specs.Lu.{numbers};
-ghost use Rattle.matrices.specs.Order.{All, isOrder, differ, parity};
+ghost use Rattle.matrices.specs.Order.{isOrder, differ};
+ghost use Rattle.matrices.specs.Walk.{isBarred, marksWith};
 
 // 0, 1, .., one an entry.
 pub fn number(order: &mut [usize])
@@ -38,7 +40,18 @@ pub fn exchange(order: &mut [usize], p: usize, q: usize)
     order[q] = x;
 }
 
-// Every number is below n, and no two are equal. Bit x of `seen`: whether x has come already.
+// x may not come next: it is not below n, or its bit is set in `seen`.
+pub fn is_barred(n: usize, seen: u64, x: usize) -> bool
+    requires { ⌜ n ≤ 32 ⌝ }
+    ensures { λ r. ⌜ r ≡ isBarred n seen x ⌝ }
+{
+    if x >= n {
+        return true;
+    }
+    (seen >> x) % 2 == 1
+}
+
+// Every number is below n, and no two are equal.
 pub fn is_order(n: usize, order: &[usize]) -> bool
     requires { ⌜ n ≤ 32 ⌝ }
     ensures { λ r. ⌜ r ≡ isOrder n (now (order .entry)) ⌝ }
@@ -47,10 +60,7 @@ pub fn is_order(n: usize, order: &[usize]) -> bool
     let mut i = 0;
     while i < order.len() {
         let x = order[i];
-        if x >= n {
-            return false;
-        }
-        if (seen >> x) % 2 == 1 {
+        if is_barred(n, seen, x) {
             return false;
         }
         seen = seen | (1 << x);
@@ -66,20 +76,18 @@ pub fn differs(t: bool, b: bool) -> bool
     if t { !b } else { b }
 }
 
-// The order's parity: whether an odd number of pairs stand the wrong way round.
-// Bit x of `above`: whether an odd number of those that have come are above x.
-pub fn is_odd(order: &[usize]) -> bool
-    requires { ⌜ All (λ v. v < 32) (now order) ⌝ }
-    ensures { λ r. ⌜ r ≡ parity (now (order .entry)) ⌝ }
+// x has come: as many more pairs stand the wrong way round as numbers above it have come.
+pub fn mark(m: Marks, x: usize) -> Marks
+    requires { ⌜ x < 64 ⌝ }
+    ensures { λ r. ⌜ r ≡ marksWith m x ⌝ }
 {
-    let mut above = 0u64;
-    let mut odd = false;
-    let mut i = 0;
-    while i < order.len() {
-        let x = order[i];
-        odd = differs((above >> x) % 2 == 1, odd);
-        above = above ^ ((1 << x) - 1);
-        i += 1;
+    let seen = m.seen;
+    let above = m.above;
+    let odd = differs((above >> x) % 2 == 1, m.odd);
+    let bit = 1u64 << x;
+    Marks {
+        seen: seen | bit,
+        above: above ^ (bit - 1),
+        odd,
     }
-    odd
 }

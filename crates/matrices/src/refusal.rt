@@ -1,9 +1,9 @@
 // The refusals of the four entries, by number, in document 01's order; 0 where none applies. A record has w floats.
 use super::order;
 ghost use mathlib.Core.Path.{_≡_};
-ghost use Prim.Native.Nat.{ℕ, _<_, _≤_};
-ghost use Rattle.matrices.specs.Order.{All};
-ghost use Rattle.matrices.specs.Entries.{luRefusal, orderRefusal, solveRefusal, inverseRefusal, swapsRefusal, determinantRefusal};
+ghost use Prim.Native.Nat.{ℕ, _≤_};
+ghost use Rattle.matrices.specs.Entries.{luRefusal, orderRefusal, solveRefusal, inverseRefusal};
+ghost use Rattle.matrices.specs.Walk.{lengthsRefusal, countRefusal};
 
 // Of LU, by the lengths that are lent.
 pub fn lu(w: usize, n: usize, a: usize, factors: usize, order: usize) -> u32
@@ -82,24 +82,10 @@ pub fn inverse(w: usize, n: usize, factors: usize, order: &[usize], out: usize) 
     not_an_order(n, order)
 }
 
-// Of a swap count beside an order.
-fn wrong_swaps(order: &[usize], swaps: usize) -> u32
-    requires { ⌜ All (λ v. v < 32) (now order) ⌝ }
-    ensures { λ r. ⌜ r ≡ swapsRefusal (now (order .entry)) swaps ⌝ }
-{
-    if 32 < swaps {
-        return algebra::WRONG_SWAPS;
-    }
-    if order::differs(swaps % 2 == 1, order::is_odd(order)) {
-        return algebra::WRONG_SWAPS;
-    }
-    0
-}
-
-// Of determinant.
-pub fn determinant(w: usize, n: usize, factors: usize, order: &[usize], swaps: usize) -> u32
+// Of determinant, by the lengths that are lent; 7 and 8 are found on its walk over the order.
+pub fn determinant(w: usize, n: usize, factors: usize, order: usize) -> u32
     requires { ⌜ w ≤ 8 ⌝ }
-    ensures { λ r. ⌜ r ≡ determinantRefusal w n factors (now (order .entry)) swaps ⌝ }
+    ensures { λ r. ⌜ r ≡ lengthsRefusal w n factors order ⌝ }
 {
     if 32 < n {
         return algebra::TOO_LARGE;
@@ -107,11 +93,21 @@ pub fn determinant(w: usize, n: usize, factors: usize, order: &[usize], swaps: u
     if factors != n * n * w {
         return algebra::WRONG_LENGTH;
     }
-    if order.len() != n {
+    if order != n {
         return algebra::WRONG_LENGTH;
     }
-    if order::is_order(n, order) {
-        return wrong_swaps(order, swaps);
+    0
+}
+
+// Of a swap count beside an order whose parity is `odd`.
+pub fn swap_count(odd: bool, swaps: usize) -> u32
+    ensures { λ r. ⌜ r ≡ countRefusal odd swaps ⌝ }
+{
+    if 32 < swaps {
+        return algebra::WRONG_SWAPS;
     }
-    algebra::NOT_AN_ORDER
+    if order::differs(swaps % 2 == 1, odd) {
+        return algebra::WRONG_SWAPS;
+    }
+    0
 }

@@ -1,7 +1,5 @@
 use borrow.Author.Needs.{needs}
-use Rattle.dual.specs.Rules.{dualAlgebra, dualLayout}
-use Rattle.matrices.proofs.Answers.{determinant-refused}
-use Rattle.matrices.proofs.Turns.{determinant-allowed, determinant-answers}
+use Rattle.matrices.proofs.Turns.{determinant-allowed, determinant-unfit}
 use Rattle.dual_cells.proofs.Cells.{dual-laws}
 use Rattle.dual_lu.proofs.determinant.Statement.{statement}
 use Rattle.dual_lu.proofs.determinant.Tie as tie
@@ -11,6 +9,6 @@ determinant-spec =
     tie.close
     (tie.spec
     (λ c κs. search needs)
-    (λ c. search (needs, determinant-refused dualAlgebra dualLayout))
-    (λ c κs. search (needs, determinant-allowed dual-laws))
-    (λ c. search (needs, determinant-answers dual-laws)))
+    (λ c. search (needs, determinant-unfit dual-laws))
+    (λ c κs. determinant-allowed dual-laws _ _ _ _ (c .before .determinant .ensures) (c .if1 .left))
+    (λ c. search needs))

@@ -1,13 +1,39 @@
 use borrow.Author.Needs.{needs}
-use Rattle.matrices.proofs.Turns.{determinant-odd, determinant-even}
+use Prim.Native.Nat.{_-_}
+use denote.Ref.{now}
+use Rattle.matrices.specs.Matrix.{Row}
+use Rattle.matrices.proofs.Places.{row-of}
+use Rattle.matrices.proofs.Turns.{Walking, walking, walk-bit, walk-turn, walk-stop, walk-refused, walk-end}
 use Rattle.dual_cells.proofs.Cells.{dual-laws}
 use Rattle.dual_lu.proofs.columns.determinant_of.Statement.{statement}
 use Rattle.dual_lu.proofs.columns.determinant_of.Tie as tie
 
+abbrev Inv-loop : tie.InvT-loop
+Inv-loop n a o swaps m₀ x₀ i₀ m x i = Walking dual-laws n a o m x i
+
+abbrev μ-loop : tie.MeasureT-loop
+μ-loop n a o swaps m₀ x₀ i₀ m x i = n - i
+
+-- the row of the turn
+row : (c : tie.In-loop Inv-loop μ-loop) → let s = c .before .before .before .before .args in Row 2 (s .n) (c .before .loop .i) (now (s .a))
+row c = row-of 2 _ _ _ (c .before .before .before .before .pre .0) (c .loop-test .taken)
+
 pub determinant-of-spec : {M : Type 1} → statement M
 determinant-of-spec =
     tie.close
-    (tie.spec
-    (λ c κs. search needs) (λ c κs. search needs)
-    (λ c. search (needs, determinant-odd dual-laws))
-    (λ c. search (needs, determinant-even dual-laws)))
+    (tie.spec Inv-loop μ-loop
+    (λ c. walking dual-laws _ _ _)
+    (λ c. search needs)
+    (λ c. search needs)
+    (λ c κs. search needs)
+    (λ c. search (needs, walk-stop dual-laws))
+    (λ c κs. search (needs, walk-bit dual-laws))
+    (λ c. let t = row (c .before .before .before .before) in search needs)
+    (λ c. let t = row (c .before .before .before .before) in search needs)
+    (λ c κs. let t = row (c .before .before .before .before) in search needs)
+    (λ c κs. search needs) (λ c. search needs) (λ c. search needs)
+    (λ c. search (needs, walk-turn dual-laws))
+    (λ c κs. search needs)
+    (λ c. search (needs, walk-refused dual-laws))
+    (λ c κs. search needs)
+    (λ c. search (needs, walk-end dual-laws)))

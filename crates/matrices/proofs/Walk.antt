@@ -1,4 +1,4 @@
--- Numbers marked in a word, bit x for x, and what a walk over an order tells from them: whether it is a permutation, and its parity. Assumes nothing.
+-- A walk over an order with numbers marked in words, bit x for x: what is left decides whether it is a permutation, and its parity. Assumes nothing.
 use Prim.Native.Nat.{ℕ, zero, suc, _+_, _-_, _*_, _/_, _%_, _^_, _≤_, _<_}
 use mathlib.Core.Path.{_≡_, refl, ap, sym, _∙_}
 use mathlib.Core.Bool.{Bool, true, false, not, _&&_, _||_, Bool·not-not}
@@ -9,13 +9,11 @@ use native.Mathlib.Omega.{arith}
 use lib.Bits.{bitOr, bitXor, or-shr, or-mod, xor-shr, xor-mod}
 use lib.Pow.{pow-pos, pow-mono, pow-lt, pow-add, shl-shr, shl-exact, ones-split, ones-lt, high}
 use lib.Dec.{ltb, eqb}
-use borrow.Author.Tests.{lt-ltb, le-ltb, eq-eqb, ne-eqb}
+use lib.ListN.{length, getD, drop}
+use borrow.Author.Tests.{lt-ltb, le-ltb, ltb-true, eq-eqb, ne-eqb}
 use Rattle.matrices.specs.Order.{absent, isOrder, differ, oddBelow, parity}
-use Rattle.matrices.proofs.Rest.{differ-turn}
-
--- x is marked in w
-abbrev pub marked : ℕ → ℕ → Bool
-marked w x = eqb (w / 2 ^ x % 2) 1
+use Rattle.matrices.specs.Walk.{marked, isBarred}
+use Rattle.matrices.proofs.Rest.{rest-turn, rest-end, differ-turn, differ-false}
 
 -- ---- the marks of a word that is made from others
 
@@ -82,6 +80,14 @@ marked-below x y = go (decLt y x)
 pub one-shifted : (x : ℕ) → x < 64 → 1 * 2 ^ x % 2 ^ 64 ≡ 2 ^ x
 one-shifted x h = shl-exact 1 x 64 (omega arith) (omega arith) ∙ omega arith
 
+-- what may come next is below n
+pub free-below : (n w x : ℕ) → isBarred n w x ≡ false → x < n
+free-below n w x e = ltb-true x n (go (ltb x n) (marked w x) e)
+  where
+    go : (s t : Bool) → (not s || t) ≡ false → s ≡ true
+    go true t e = refl
+    go false t e = sym e
+
 -- ---- no two are equal: w marks what has come
 
 -- nothing of the list is marked
@@ -110,7 +116,7 @@ unmarked-more w x (y ∷ l) = rw (marked-or w (2 ^ x) y, marked-one x y, unmarke
 pub passes : ℕ → ℕ → List ℕ → Bool
 passes n w l = isOrder n l && unmarked w l
 
-pub passes-start : (n : ℕ) (l : List ℕ) → passes n 0 l ≡ isOrder n l
+passes-start : (n : ℕ) (l : List ℕ) → passes n 0 l ≡ isOrder n l
 unfolding passes
 passes-start n l = rw (unmarked-zero l) (go (isOrder n l))
   where
@@ -118,15 +124,15 @@ passes-start n l = rw (unmarked-zero l) (go (isOrder n l))
     go true = refl
     go false = refl
 
-pub passes-end : (n w : ℕ) → passes n w [] ≡ true
+passes-end : (n w : ℕ) → passes n w [] ≡ true
 unfolding passes isOrder unmarked
 passes-end n w = refl
 
-pub passes-turn : (n w x : ℕ) (l : List ℕ) (s t : Bool) → ltb x n ≡ s → marked w x ≡ t → passes n w (x ∷ l) ≡ (s && (not t && passes n (bitOr w (2 ^ x)) l))
+passes-turn : (n w x : ℕ) (l : List ℕ) → passes n w (x ∷ l) ≡ (not (isBarred n w x) && passes n (bitOr w (2 ^ x)) l)
 unfolding passes isOrder unmarked
-passes-turn n w x l s t e f = rw (e, f, unmarked-more w x l) (go s t (absent x l) (isOrder n l) (unmarked w l))
+passes-turn n w x l = rw (unmarked-more w x l) (go (ltb x n) (marked w x) (absent x l) (isOrder n l) (unmarked w l))
   where
-    go : (s t a o u : Bool) → ((s && (a && o)) && (not t && u)) ≡ (s && (not t && (o && (a && u))))
+    go : (s t a o u : Bool) → ((s && (a && o)) && (not t && u)) ≡ (not (not s || t) && (o && (a && u)))
     go false t a o u = refl
     go true true false o u = refl
     go true true true false u = refl
@@ -135,6 +141,25 @@ passes-turn n w x l s t e f = rw (e, f, unmarked-more w x l) (go s t (absent x l
     go true false false true u = refl
     go true false true false u = refl
     go true false true true u = refl
+
+-- before entry i, what is left decides
+abbrev pub Passing : ℕ → List ℕ → ℕ → ℕ → Type 0
+Passing n o w i = passes n w (drop i o) ≡ isOrder n o
+
+pub passing : (n : ℕ) (o : List ℕ) → Passing n o 0 0
+passing n o = passes-start n o
+
+pass-at : (n w : ℕ) (o : List ℕ) (i : ℕ) (t : Bool) → i < length o → isBarred n w (getD o i 0) ≡ t → passes n w (drop i o) ≡ (not t && passes n (bitOr w (2 ^ getD o i 0)) (drop (i + 1) o))
+pass-at n w o i t h e = ap (passes n w) (rest-turn o i h) ∙ passes-turn n w (getD o i 0) (drop (i + 1) o) ∙ ap (λ (s : Bool). not s && passes n (bitOr w (2 ^ getD o i 0)) (drop (i + 1) o)) e
+
+pub pass-turn : (n : ℕ) (o : List ℕ) (w i : ℕ) → Passing n o w i → i < length o → isBarred n w (getD o i 0) ≡ false → Passing n o (bitOr w (2 ^ getD o i 0)) (i + 1)
+pass-turn n o w i p h e = sym (pass-at n w o i false h e) ∙ p
+
+pub pass-stop : (n : ℕ) (o : List ℕ) (w i : ℕ) → Passing n o w i → i < length o → isBarred n w (getD o i 0) ≡ true → isOrder n o ≡ false
+pass-stop n o w i p h e = sym p ∙ pass-at n w o i true h e
+
+pub pass-end : (n : ℕ) (o : List ℕ) (w i : ℕ) → Passing n o w i → length o ≤ i → isOrder n o ≡ true
+pass-end n o w i p h = sym p ∙ ap (passes n w) (rest-end o i h) ∙ passes-end n w
 
 -- ---- the parity: w marks those that an odd number of what has come is above
 
@@ -166,15 +191,15 @@ oddMarked-more w x (y ∷ l) = rw (marked-xor w (2 ^ x - 1) y, marked-below x y,
 pub parityLeft : ℕ → List ℕ → Bool
 parityLeft w l = differ (oddMarked w l) (parity l)
 
-pub parity-start : (l : List ℕ) → parityLeft 0 l ≡ parity l
+parity-start : (l : List ℕ) → parityLeft 0 l ≡ parity l
 unfolding parityLeft
 parity-start l = ap (λ (t : Bool). differ t (parity l)) (oddMarked-zero l)
 
-pub parity-end : (w : ℕ) → parityLeft w [] ≡ false
+parity-end : (w : ℕ) → parityLeft w [] ≡ false
 unfolding parityLeft oddMarked parity
 parity-end w = refl
 
-pub parity-turn : (w x : ℕ) (l : List ℕ) (odd : Bool) → differ (differ (marked w x) odd) (parityLeft (bitXor w (2 ^ x - 1)) l) ≡ differ odd (parityLeft w (x ∷ l))
+parity-turn : (w x : ℕ) (l : List ℕ) (odd : Bool) → differ (differ (marked w x) odd) (parityLeft (bitXor w (2 ^ x - 1)) l) ≡ differ odd (parityLeft w (x ∷ l))
 unfolding parityLeft oddMarked parity
 parity-turn w x l odd =
     let m = marked w x in
@@ -190,3 +215,16 @@ parity-turn w x l odd =
     swap false true q = refl
     swap true false q = refl
     swap true true q = refl
+
+-- before entry i, the pairs so far and what is left give the parity
+abbrev pub Pairing : List ℕ → ℕ → Bool → ℕ → Type 0
+Pairing o w odd i = differ odd (parityLeft w (drop i o)) ≡ parity o
+
+pub pairing : (o : List ℕ) → Pairing o 0 false 0
+pairing o = parity-start o
+
+pub pair-turn : (o : List ℕ) (w : ℕ) (odd : Bool) (i : ℕ) → Pairing o w odd i → i < length o → Pairing o (bitXor w (2 ^ getD o i 0 - 1)) (differ (marked w (getD o i 0)) odd) (i + 1)
+pair-turn o w odd i p h = parity-turn w (getD o i 0) (drop (i + 1) o) odd ∙ ap (λ (m : List ℕ). differ odd (parityLeft w m)) (sym (rest-turn o i h)) ∙ p
+
+pub pair-end : (o : List ℕ) (w : ℕ) (odd : Bool) (i : ℕ) → Pairing o w odd i → length o ≤ i → odd ≡ parity o
+pair-end o w odd i p h = sym (differ-false odd) ∙ ap (differ odd) (sym (ap (parityLeft w) (rest-end o i h) ∙ parity-end w)) ∙ p

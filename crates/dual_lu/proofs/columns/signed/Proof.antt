@@ -1,0 +1,13 @@
+use borrow.Author.Needs.{needs}
+use Rattle.matrices.proofs.Turns.{sign-odd, sign-even}
+use Rattle.dual_cells.proofs.Cells.{dual-laws}
+use Rattle.dual_lu.proofs.columns.signed.Statement.{statement}
+use Rattle.dual_lu.proofs.columns.signed.Tie as tie
+
+pub signed-spec : {M : Type 1} → statement M
+signed-spec =
+    tie.close
+    (tie.spec
+    (λ c κs. search needs)
+    (λ c. search (needs, sign-odd dual-laws))
+    (λ c. search (needs, sign-even dual-laws)))
