@@ -1,6 +1,6 @@
 -- Laws of matrices over any record; those that the crates of the entries cite are public.
 -- lists: what a filling loop has passed, what is left of a list
-mod Fill
+pub mod Fill
 mod Rest
 pub mod Odd
 -- places of a square matrix in flat floats
