@@ -23,6 +23,7 @@ ghost use Rattle.dual2_calls.specs.Kind.{dual2Kind, dual2Derivatives};
 
 const WIDTH: usize = 3;
 
+// `derivative` and its kin by function number; no other number is one of them.
 fn derivative(function: u32, x: Dual2) -> Dual2Answer
     ensures { λ r. ⌜ outcome r ≡ dual2Derivatives function x ⌝ }
 {
@@ -65,6 +66,7 @@ fn by_float(op: ByFloat, x: Dual2, f: f64) -> Dual2
     }
 }
 
+// What gives one record.
 fn operate(op: Operation, x: Dual2, y: Dual2, z: Dual2) -> Dual2Answer
     ensures { λ r. ⌜ outcome r ≡ operateOf dual2Kind op x y z ⌝ }
 {
@@ -97,6 +99,7 @@ fn record_at(words: &[u64], p: usize) -> Dual2
     )
 }
 
+// A record's words to out, or its refusal.
 fn leave(answer: Dual2Answer, out: &mut [u64]) -> u32
     requires { ⌜ length (now out) ≡ dual2Layout .width ⌝ }
     ensures { λ r. ⌜ (r, now (out .exit)) ≡ leaves (mapOutcome wordsOf (mapOutcome (dual2Layout .parts) (outcome answer))) (now (out .entry)) ⌝ }
@@ -111,6 +114,7 @@ fn leave(answer: Dual2Answer, out: &mut [u64]) -> u32
     }
 }
 
+// The words of two records to out.
 fn leave_both(answer: Dual2SinCos, out: &mut [u64])
     requires { ⌜ length (now out) ≡ dual2Layout .width + dual2Layout .width ⌝ }
     ensures { λ _. ⌜ now (out .exit) ≡ wordsOf (dual2Layout .parts (answer .sin) ++ dual2Layout .parts (answer .cos)) ⌝ }
@@ -121,6 +125,7 @@ fn leave_both(answer: Dual2SinCos, out: &mut [u64])
     words::put(&parts, out);
 }
 
+// What a call leaves, where out has its size.
 fn run(call: Call, x: Dual2, y: Dual2, z: Dual2, out: &mut [u64]) -> u32
     requires { ⌜ Sized (dual2Layout .width) (length (now out)) call ⌝ }
     ensures { λ r. ⌜ (r, now (out .exit)) ≡ leaves (mapOutcome wordsOf (answerOf dual2Kind call x y z)) (now (out .entry)) ⌝ }
@@ -139,7 +144,7 @@ fn run(call: Call, x: Dual2, y: Dual2, z: Dual2, out: &mut [u64]) -> u32
     }
 }
 
-// A call by function number.
+// A call by function number: 0, or the number that it is refused by with nothing written.
 pub fn call(function: u32, exponent: i32, records: &[u64], floats: &[u64], out: &mut [u64]) -> u32
     ensures { λ r. ⌜ (r, now (out .exit)) ≡ calledOf dual2Kind function exponent (now (records .entry)) (now (floats .entry)) (now (out .entry)) ⌝ }
 {
@@ -150,6 +155,7 @@ pub fn call(function: u32, exponent: i32, records: &[u64], floats: &[u64], out: 
     run(call, x, y, z, out)
 }
 
+// A record's parts to out, or its refusal.
 fn leave_floats(answer: Dual2Answer, out: &mut [f64]) -> u32
     ensures { λ r. ⌜ (r, now (out .exit)) ≡ joinedLeft dual2Kind (outcome answer) (now (out .entry)) ⌝ }
 {

@@ -23,6 +23,7 @@ ghost use Rattle.dual3_calls.specs.Kind.{dual3Kind, dual3Derivatives};
 
 const WIDTH: usize = 4;
 
+// `derivative` and its kin by function number; no other number is one of them.
 fn derivative(function: u32, x: Dual3) -> Dual3Answer
     ensures { λ r. ⌜ outcome r ≡ dual3Derivatives function x ⌝ }
 {
@@ -65,6 +66,7 @@ fn by_float(op: ByFloat, x: Dual3, f: f64) -> Dual3
     }
 }
 
+// What gives one record.
 fn operate(op: Operation, x: Dual3, y: Dual3, z: Dual3) -> Dual3Answer
     ensures { λ r. ⌜ outcome r ≡ operateOf dual3Kind op x y z ⌝ }
 {
@@ -98,6 +100,7 @@ fn record_at(words: &[u64], p: usize) -> Dual3
     )
 }
 
+// A record's words to out, or its refusal.
 fn leave(answer: Dual3Answer, out: &mut [u64]) -> u32
     requires { ⌜ length (now out) ≡ dual3Layout .width ⌝ }
     ensures { λ r. ⌜ (r, now (out .exit)) ≡ leaves (mapOutcome wordsOf (mapOutcome (dual3Layout .parts) (outcome answer))) (now (out .entry)) ⌝ }
@@ -112,6 +115,7 @@ fn leave(answer: Dual3Answer, out: &mut [u64]) -> u32
     }
 }
 
+// The words of two records to out.
 fn leave_both(answer: Dual3SinCos, out: &mut [u64])
     requires { ⌜ length (now out) ≡ dual3Layout .width + dual3Layout .width ⌝ }
     ensures { λ _. ⌜ now (out .exit) ≡ wordsOf (dual3Layout .parts (answer .sin) ++ dual3Layout .parts (answer .cos)) ⌝ }
@@ -122,6 +126,7 @@ fn leave_both(answer: Dual3SinCos, out: &mut [u64])
     words::put(&parts, out);
 }
 
+// What a call leaves, where out has its size.
 fn run(call: Call, x: Dual3, y: Dual3, z: Dual3, out: &mut [u64]) -> u32
     requires { ⌜ Sized (dual3Layout .width) (length (now out)) call ⌝ }
     ensures { λ r. ⌜ (r, now (out .exit)) ≡ leaves (mapOutcome wordsOf (answerOf dual3Kind call x y z)) (now (out .entry)) ⌝ }
@@ -140,7 +145,7 @@ fn run(call: Call, x: Dual3, y: Dual3, z: Dual3, out: &mut [u64]) -> u32
     }
 }
 
-// A call by function number.
+// A call by function number: 0, or the number that it is refused by with nothing written.
 pub fn call(function: u32, exponent: i32, records: &[u64], floats: &[u64], out: &mut [u64]) -> u32
     ensures { λ r. ⌜ (r, now (out .exit)) ≡ calledOf dual3Kind function exponent (now (records .entry)) (now (floats .entry)) (now (out .entry)) ⌝ }
 {
@@ -151,6 +156,7 @@ pub fn call(function: u32, exponent: i32, records: &[u64], floats: &[u64], out: 
     run(call, x, y, z, out)
 }
 
+// A record's parts to out, or its refusal.
 fn leave_floats(answer: Dual3Answer, out: &mut [f64]) -> u32
     ensures { λ r. ⌜ (r, now (out .exit)) ≡ joinedLeft dual3Kind (outcome answer) (now (out .entry)) ⌝ }
 {

@@ -23,6 +23,7 @@ ghost use Rattle.dual_calls.specs.Kind.{dualKind, dualDerivatives};
 
 const WIDTH: usize = 2;
 
+// `derivative` and its kin by function number; no other number is one of them.
 fn derivative(function: u32, x: Dual) -> DualAnswer
     ensures { λ r. ⌜ outcome r ≡ dualDerivatives function x ⌝ }
 {
@@ -65,6 +66,7 @@ fn by_float(op: ByFloat, x: Dual, f: f64) -> Dual
     }
 }
 
+// What gives one record.
 fn operate(op: Operation, x: Dual, y: Dual, z: Dual) -> DualAnswer
     ensures { λ r. ⌜ outcome r ≡ operateOf dualKind op x y z ⌝ }
 {
@@ -93,6 +95,7 @@ fn record_at(words: &[u64], p: usize) -> Dual
     Dual::new(words::part(words, at), words::part(words, at + 1))
 }
 
+// A record's words to out, or its refusal.
 fn leave(answer: DualAnswer, out: &mut [u64]) -> u32
     requires { ⌜ length (now out) ≡ dualLayout .width ⌝ }
     ensures { λ r. ⌜ (r, now (out .exit)) ≡ leaves (mapOutcome wordsOf (mapOutcome (dualLayout .parts) (outcome answer))) (now (out .entry)) ⌝ }
@@ -107,6 +110,7 @@ fn leave(answer: DualAnswer, out: &mut [u64]) -> u32
     }
 }
 
+// The words of two records to out.
 fn leave_both(answer: DualSinCos, out: &mut [u64])
     requires { ⌜ length (now out) ≡ dualLayout .width + dualLayout .width ⌝ }
     ensures { λ _. ⌜ now (out .exit) ≡ wordsOf (dualLayout .parts (answer .sin) ++ dualLayout .parts (answer .cos)) ⌝ }
@@ -117,6 +121,7 @@ fn leave_both(answer: DualSinCos, out: &mut [u64])
     words::put(&parts, out);
 }
 
+// What a call leaves, where out has its size.
 fn run(call: Call, x: Dual, y: Dual, z: Dual, out: &mut [u64]) -> u32
     requires { ⌜ Sized (dualLayout .width) (length (now out)) call ⌝ }
     ensures { λ r. ⌜ (r, now (out .exit)) ≡ leaves (mapOutcome wordsOf (answerOf dualKind call x y z)) (now (out .entry)) ⌝ }
@@ -135,7 +140,7 @@ fn run(call: Call, x: Dual, y: Dual, z: Dual, out: &mut [u64]) -> u32
     }
 }
 
-// A call by function number.
+// A call by function number: 0, or the number that it is refused by with nothing written.
 pub fn call(function: u32, exponent: i32, records: &[u64], floats: &[u64], out: &mut [u64]) -> u32
     ensures { λ r. ⌜ (r, now (out .exit)) ≡ calledOf dualKind function exponent (now (records .entry)) (now (floats .entry)) (now (out .entry)) ⌝ }
 {
@@ -146,6 +151,7 @@ pub fn call(function: u32, exponent: i32, records: &[u64], floats: &[u64], out: 
     run(call, x, y, z, out)
 }
 
+// A record's parts to out, or its refusal.
 fn leave_floats(answer: DualAnswer, out: &mut [f64]) -> u32
     ensures { λ r. ⌜ (r, now (out .exit)) ≡ joinedLeft dualKind (outcome answer) (now (out .entry)) ⌝ }
 {

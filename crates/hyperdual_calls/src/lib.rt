@@ -23,6 +23,7 @@ ghost use Rattle.hyperdual_calls.specs.Kind.{hyperDualKind, hyperDualDer
 
 const WIDTH: usize = 4;
 
+// `derivative` and its kin by function number; no other number is one of them.
 fn derivative(function: u32, x: HyperDual) -> HyperDualAnswer
     ensures { λ r. ⌜ outcome r ≡ hyperDualDerivatives function x ⌝ }
 {
@@ -66,6 +67,7 @@ fn by_float(op: ByFloat, x: HyperDual, f: f64) -> HyperDual
     }
 }
 
+// What gives one record.
 fn operate(op: Operation, x: HyperDual, y: HyperDual, z: HyperDual) -> HyperDualAnswer
     ensures { λ r. ⌜ outcome r ≡ operateOf hyperDualKind op x y z ⌝ }
 {
@@ -99,6 +101,7 @@ fn record_at(words: &[u64], p: usize) -> HyperDual
     )
 }
 
+// A record's words to out, or its refusal.
 fn leave(answer: HyperDualAnswer, out: &mut [u64]) -> u32
     requires { ⌜ length (now out) ≡ hyperDualLayout .width ⌝ }
     ensures { λ r. ⌜ (r, now (out .exit)) ≡ leaves (mapOutcome wordsOf (mapOutcome (hyperDualLayout .parts) (outcome answer))) (now (out .entry)) ⌝ }
@@ -113,6 +116,7 @@ fn leave(answer: HyperDualAnswer, out: &mut [u64]) -> u32
     }
 }
 
+// The words of two records to out.
 fn leave_both(answer: HyperDualSinCos, out: &mut [u64])
     requires { ⌜ length (now out) ≡ hyperDualLayout .width + hyperDualLayout .width ⌝ }
     ensures { λ _. ⌜ now (out .exit) ≡ wordsOf (hyperDualLayout .parts (answer .sin) ++ hyperDualLayout .parts (answer .cos)) ⌝ }
@@ -132,6 +136,7 @@ fn leave_both(answer: HyperDualSinCos, out: &mut [u64])
     words::put(&parts, out);
 }
 
+// What a call leaves, where out has its size.
 fn run(call: Call, x: HyperDual, y: HyperDual, z: HyperDual, out: &mut [u64]) -> u32
     requires { ⌜ Sized (hyperDualLayout .width) (length (now out)) call ⌝ }
     ensures { λ r. ⌜ (r, now (out .exit)) ≡ leaves (mapOutcome wordsOf (answerOf hyperDualKind call x y z)) (now (out .entry)) ⌝ }
@@ -150,7 +155,7 @@ fn run(call: Call, x: HyperDual, y: HyperDual, z: HyperDual, out: &mut [u64]) ->
     }
 }
 
-// A call by function number.
+// A call by function number: 0, or the number that it is refused by with nothing written.
 pub fn call(function: u32, exponent: i32, records: &[u64], floats: &[u64], out: &mut [u64]) -> u32
     ensures { λ r. ⌜ (r, now (out .exit)) ≡ calledOf hyperDualKind function exponent (now (records .entry)) (now (floats .entry)) (now (out .entry)) ⌝ }
 {
@@ -161,6 +166,7 @@ pub fn call(function: u32, exponent: i32, records: &[u64], floats: &[u64], out: 
     run(call, x, y, z, out)
 }
 
+// A record's parts to out, or its refusal.
 fn leave_floats(answer: HyperDualAnswer, out: &mut [f64]) -> u32
     ensures { λ r. ⌜ (r, now (out .exit)) ≡ joinedLeft hyperDualKind (outcome answer) (now (out .entry)) ⌝ }
 {

@@ -23,6 +23,7 @@ ghost use Rattle.hyperhyperdual_calls.specs.Kind.{hyperHyperDualKind, hy
 
 const WIDTH: usize = 8;
 
+// `derivative` and its kin by function number; no other number is one of them.
 fn derivative(function: u32, x: HyperHyperDual) -> HyperHyperDualAnswer
     ensures { λ r. ⌜ outcome r ≡ hyperHyperDualDerivatives function x ⌝ }
 {
@@ -67,6 +68,7 @@ fn by_float(op: ByFloat, x: HyperHyperDual, f: f64) -> HyperHyperDual
     }
 }
 
+// What gives one record.
 fn operate(
     op: Operation,
     x: HyperHyperDual,
@@ -109,6 +111,7 @@ fn record_at(words: &[u64], p: usize) -> HyperHyperDual
     )
 }
 
+// A record's words to out, or its refusal.
 fn leave(answer: HyperHyperDualAnswer, out: &mut [u64]) -> u32
     requires { ⌜ length (now out) ≡ hyperHyperDualLayout .width ⌝ }
     ensures { λ r. ⌜ (r, now (out .exit)) ≡ leaves (mapOutcome wordsOf (mapOutcome (hyperHyperDualLayout .parts) (outcome answer))) (now (out .entry)) ⌝ }
@@ -132,6 +135,7 @@ fn leave(answer: HyperHyperDualAnswer, out: &mut [u64]) -> u32
     }
 }
 
+// The words of two records to out.
 fn leave_both(answer: HyperHyperDualSinCos, out: &mut [u64])
     requires { ⌜ length (now out) ≡ hyperHyperDualLayout .width + hyperHyperDualLayout .width ⌝ }
     ensures { λ _. ⌜ now (out .exit) ≡ wordsOf (hyperHyperDualLayout .parts (answer .sin) ++ hyperHyperDualLayout .parts (answer .cos)) ⌝ }
@@ -159,6 +163,7 @@ fn leave_both(answer: HyperHyperDualSinCos, out: &mut [u64])
     words::put(&parts, out);
 }
 
+// What a call leaves, where out has its size.
 fn run(call: Call, x: HyperHyperDual, y: HyperHyperDual, z: HyperHyperDual, out: &mut [u64]) -> u32
     requires { ⌜ Sized (hyperHyperDualLayout .width) (length (now out)) call ⌝ }
     ensures { λ r. ⌜ (r, now (out .exit)) ≡ leaves (mapOutcome wordsOf (answerOf hyperHyperDualKind call x y z)) (now (out .entry)) ⌝ }
@@ -177,7 +182,7 @@ fn run(call: Call, x: HyperHyperDual, y: HyperHyperDual, z: HyperHyperDual, out:
     }
 }
 
-// A call by function number.
+// A call by function number: 0, or the number that it is refused by with nothing written.
 pub fn call(function: u32, exponent: i32, records: &[u64], floats: &[u64], out: &mut [u64]) -> u32
     ensures { λ r. ⌜ (r, now (out .exit)) ≡ calledOf hyperHyperDualKind function exponent (now (records .entry)) (now (floats .entry)) (now (out .entry)) ⌝ }
 {
@@ -188,6 +193,7 @@ pub fn call(function: u32, exponent: i32, records: &[u64], floats: &[u64], out: 
     run(call, x, y, z, out)
 }
 
+// A record's parts to out, or its refusal.
 fn leave_floats(answer: HyperHyperDualAnswer, out: &mut [f64]) -> u32
     ensures { λ r. ⌜ (r, now (out .exit)) ≡ joinedLeft hyperHyperDualKind (outcome answer) (now (out .entry)) ⌝ }
 {
