@@ -4,6 +4,7 @@ use mathlib.Core.Path.{_≡_, refl, ap, sym, _∙_}
 use mathlib.Core.Bool.{Bool, true, false, cond}
 use mathlib.Core.List.{List}
 use native.Mathlib.Omega.{arith}
+use native.Mathlib.Nat.{mul-le-mul, mul-le-mul-right}
 use lib.Dec.{T}
 use lib.ListN.{length, take, replicate, length-replicate}
 use lib.Seq.{length-take-le}
@@ -98,6 +99,10 @@ module _ {R : Type 0} (A : Algebra R) (n : ℕ) where
   unfolding jacobiOf ordered sweepsOf
   run-by limit a r values vectors values′ vectors′ sweeps rotations stopped e1 e2 e3 =
       ap (λ (p : Pairs R). eigen (p .d) (p .v) sweeps rotations stopped) e3 ∙ ap (ordered A n) (e2 ∙ ap (λ (t : Run R). ended (upto 0 limit (step A n) t)) e1)
+
+-- what n asks for fits a scratch made for the bound
+pub scratch-fits : (bound n : ℕ) → n ≤ bound → (n * n * 2 ≤ bound * bound * 2) × (n * 2 ≤ bound * 2)
+scratch-fits bound n h = (mul-le-mul-right 2 (mul-le-mul h h), mul-le-mul-right 2 h)
 
 -- the first k of m zeros are k floats
 pub scratch : (k m : ℕ) → k ≤ m → k ≡ length (take k (replicate m float.zero))

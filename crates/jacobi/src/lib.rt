@@ -82,6 +82,58 @@ fn run(
     e
 }
 
+// The run with a scratch for n up to 8, which is cleared in no time.
+fn run_up_to_8(n: usize, a: &[f64], limit: usize, values: &mut [f64], vectors: &mut [f64]) -> Ended
+    requires { ⌜ Square 2 n (now a) ⌝ }
+    requires { ⌜ Square 2 n (now vectors) ⌝ }
+    requires { ⌜ length (now values) ≡ n * 2 ⌝ }
+    requires { ⌜ (0 < n) × (n ≤ 8) ⌝ }
+    requires { ⌜ limit ≤ 1000 ⌝ }
+    ensures { λ r. ⌜ eigen (records (now (values .exit))) (records (now (vectors .exit))) (r .sweeps) (r .rotations) (r .stopped) ≡ jacobiOf dualAlgebra n limit (records (now (a .entry))) ⌝ }
+{
+    let full = n * n * 2;
+    let row = n * 2;
+    let mut w = [0.0f64; 128];
+    let mut bw = [0.0f64; 16];
+    let mut zw = [0.0f64; 16];
+    run(
+        n,
+        a,
+        limit,
+        &mut w[..full],
+        &mut bw[..row],
+        &mut zw[..row],
+        values,
+        vectors,
+    )
+}
+
+// The run with a scratch for every n.
+fn run_up_to_32(n: usize, a: &[f64], limit: usize, values: &mut [f64], vectors: &mut [f64]) -> Ended
+    requires { ⌜ Square 2 n (now a) ⌝ }
+    requires { ⌜ Square 2 n (now vectors) ⌝ }
+    requires { ⌜ length (now values) ≡ n * 2 ⌝ }
+    requires { ⌜ (0 < n) × (n ≤ 32) ⌝ }
+    requires { ⌜ limit ≤ 1000 ⌝ }
+    ensures { λ r. ⌜ eigen (records (now (values .exit))) (records (now (vectors .exit))) (r .sweeps) (r .rotations) (r .stopped) ≡ jacobiOf dualAlgebra n limit (records (now (a .entry))) ⌝ }
+{
+    let full = n * n * 2;
+    let row = n * 2;
+    let mut w = [0.0f64; 2048];
+    let mut bw = [0.0f64; 64];
+    let mut zw = [0.0f64; 64];
+    run(
+        n,
+        a,
+        limit,
+        &mut w[..full],
+        &mut bw[..row],
+        &mut zw[..row],
+        values,
+        vectors,
+    )
+}
+
 // Eigenvalues and eigenvectors (a column each) of the matrix a, of which only the diagonal and the part above it are read; in order of the values' real parts.
 // The run makes at most `limit` sweeps. A refusal writes nothing.
 pub fn jacobi_eigenvalue(
@@ -97,20 +149,10 @@ pub fn jacobi_eigenvalue(
     if number != 0 {
         return JacobiAnswer::Refused { number };
     }
-    let full = n * n * 2;
-    let row = n * 2;
-    let mut w = [0.0f64; 2048];
-    let mut bw = [0.0f64; 64];
-    let mut zw = [0.0f64; 64];
-    let e = run(
-        n,
-        a,
-        limit,
-        &mut w[..full],
-        &mut bw[..row],
-        &mut zw[..row],
-        values,
-        vectors,
-    );
+    let e = if n <= 8 {
+        run_up_to_8(n, a, limit, values, vectors)
+    } else {
+        run_up_to_32(n, a, limit, values, vectors)
+    };
     JacobiAnswer::Done { sweeps: e.sweeps }
 }
