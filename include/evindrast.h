@@ -8,7 +8,7 @@
      null, also where the length is 0, and a buffer that is written overlaps no other.
    - The answer is 0 or the number of a refusal (enum evindrast_number). A call that is refused writes nothing; the one exception is LU's 6. What a buffer
      held before has no effect on a result.
-   - No call stops, allocates or keeps anything: every input, length and bit pattern gets an answer, and calls may run at the same time.
+   - Every call ends with an answer, for every input, length and bit pattern. None allocates or keeps anything, and calls may run at the same time.
    - A NaN counts as positive, whatever its bits. One that evindrast_record or evindrast_sqrt_word gives has the bits 7ff8000000000000; the others' may
      have any bits of a NaN.
    docs/PROMISES.md names the theorem behind each sentence here. */
