@@ -49,7 +49,7 @@ fn main() {
     }
     print_all("", &functions(), &dual);
     print_all("", &[("Jacobi", jacobi)], &dual);
-    print_all(" of hyperdual", &functions(), &hyperdual);
+    print_all("HyperDual: ", &functions(), &hyperdual);
 }
 
 /// The inputs of every size.
@@ -70,9 +70,9 @@ fn functions<K: Port>() -> [(&'static str, Timed<K>); 5] {
     ]
 }
 
-fn print_all<K: Port>(of: &str, functions: &[(&str, Timed<K>)], cases: &[Vec<Case<K>>]) {
+fn print_all<K: Port>(kind: &str, functions: &[(&str, Timed<K>)], cases: &[Vec<Case<K>>]) {
     for (name, times) in functions {
-        let name = format!("{name}{of}");
+        let name = format!("{kind}{name}");
         cases.iter().for_each(|cases| print(&name, &cases[0].n.to_string(), &times(cases)));
     }
 }
@@ -84,65 +84,76 @@ fn print(name: &str, n: &str, times: &Times) {
 }
 
 fn root(numbers: &[f64]) -> Times {
-    let number = |i: usize| black_box(numbers[i % numbers.len()]);
-    in_turn(|i| _ = black_box(exports::sqrt(number(i))), |i| i, |i| _ = black_box(number(i).sqrt()))
+    let number = |i: usize| numbers[i % numbers.len()];
+    in_turn(
+        number,
+        |x| _ = black_box(exports::sqrt(black_box(x))),
+        number,
+        |x| _ = black_box(black_box(x).sqrt()),
+    )
 }
 
-fn lu_port<K: Port>(cases: &[Case<K>]) -> impl FnMut(usize) {
+/// The cases in turn.
+fn lend<'a, K: Port>(cases: &'a [Case<K>]) -> impl Fn(usize) -> &'a Case<K> {
+    move |i| &cases[i % cases.len()]
+}
+
+fn lu_port<'a, K: Port>(cases: &'a [Case<K>]) -> impl FnMut(&'a Case<K>) {
     let n = cases[0].n;
     let (mut factors, mut order, mut swaps) = (vec![0.0; cases[0].a.len()], vec![0; n], 0);
-    move |i| {
-        let case = &cases[i % cases.len()];
-        black_box(K::lu(n, black_box(&case.a), &mut factors, &mut order, &mut swaps));
-    }
+    move |case| _ = black_box(K::lu(n, black_box(&case.a), &mut factors, &mut order, &mut swaps))
 }
 
 fn lu<K: Port>(cases: &[Case<K>]) -> Times {
     let owned = |i: usize| cases[i % cases.len()].rust_a.clone();
-    in_turn(lu_port(cases), owned, |a: Square<K>| _ = black_box(LU::new(black_box(a))))
+    let rust = |a: Square<K>| _ = black_box(LU::new(black_box(a)));
+    in_turn(lend(cases), lu_port(cases), owned, rust)
 }
 
 fn lu_with_copy<K: Port>(cases: &[Case<K>]) -> Times {
-    let lent = |i: usize| &cases[i % cases.len()].rust_a;
-    in_turn(lu_port(cases), lent, |a: &Square<K>| _ = black_box(LU::new(black_box(a).clone())))
+    let rust = |case: &Case<K>| _ = black_box(LU::new(black_box(&case.rust_a).clone()));
+    in_turn(lend(cases), lu_port(cases), lend(cases), rust)
 }
 
 fn solve<K: Port>(cases: &[Case<K>]) -> Times {
-    let case = |i: usize| black_box(&cases[i % cases.len()]);
     let mut x = vec![0.0; cases[0].b.len()];
     in_turn(
-        |i| {
-            let Case { n, factors, order, b, .. } = case(i);
+        lend(cases),
+        |case| {
+            let Case { n, factors, order, b, .. } = black_box(case);
             black_box(K::solve(*n, factors, order, b, &mut x));
         },
-        case,
-        |case| _ = black_box(case.rust_lu.solve(&case.rust_b)),
+        lend(cases),
+        |case| {
+            let case = black_box(case);
+            black_box(case.rust_lu.solve(&case.rust_b));
+        },
     )
 }
 
 fn determinant<K: Port>(cases: &[Case<K>]) -> Times {
-    let case = |i: usize| black_box(&cases[i % cases.len()]);
     let mut det = vec![0.0; K::PARTS];
     in_turn(
-        |i| {
-            let Case { n, factors, order, swaps, .. } = case(i);
+        lend(cases),
+        |case| {
+            let Case { n, factors, order, swaps, .. } = black_box(case);
             black_box(K::determinant(*n, factors, order, *swaps, &mut det));
         },
-        case,
-        |case| _ = black_box(case.rust_lu.determinant()),
+        lend(cases),
+        |case| _ = black_box(black_box(case).rust_lu.determinant()),
     )
 }
 
 fn inverse<K: Port>(cases: &[Case<K>]) -> Times {
-    let case = |i: usize| black_box(&cases[i % cases.len()]);
     let mut out = vec![0.0; cases[0].a.len()];
     in_turn(
-        |i| {
-            let Case { n, factors, order, .. } = case(i);
+        lend(cases),
+        |case| {
+            let Case { n, factors, order, .. } = black_box(case);
             black_box(K::inverse(*n, factors, order, &mut out));
         },
-        case,
-        |case| _ = black_box(case.rust_lu.inverse()),
+        lend(cases),
+        |case| _ = black_box(black_box(case).rust_lu.inverse()),
     )
 }
 
@@ -151,9 +162,9 @@ fn jacobi(cases: &[Case<DualKind>]) -> Times {
     let (mut values, mut vectors) = (vec![0.0; n * 2], vec![0.0; n * n * 2]);
     let mut sweeps = 0;
     in_turn(
-        |i| {
-            let a = black_box(&cases[i % cases.len()].symmetric);
-            let (values, vectors) = (&mut values, &mut vectors);
+        lend(cases),
+        |case| {
+            let (a, values, vectors) = (black_box(&case.symmetric), &mut values, &mut vectors);
             black_box(exports::jacobi_eigenvalue(n, a, LIMIT, values, vectors, &mut sweeps));
         },
         |i| cases[i % cases.len()].rust_symmetric.clone(),

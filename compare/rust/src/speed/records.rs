@@ -45,14 +45,16 @@ fn pairs<K: Kind, D: DualNum>(random: &mut Random) -> Pairs {
     let (port_again, rust_again) = (port.clone(), rust.clone());
     let product = move || {
         in_turn(
-            |i| _ = black_box(times(black_box(port[i % PAIRS]))),
+            |i| port[i % PAIRS],
+            |pair| _ = black_box(times(black_box(pair))),
             |i| rust[i % PAIRS],
             |pair| _ = black_box(times(black_box(pair))),
         )
     };
     let quotient = move || {
         in_turn(
-            |i| _ = black_box(over(black_box(port_again[i % PAIRS]))),
+            |i| port_again[i % PAIRS],
+            |pair| _ = black_box(over(black_box(pair))),
             |i| rust_again[i % PAIRS],
             |pair| _ = black_box(over(black_box(pair))),
         )

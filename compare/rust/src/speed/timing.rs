@@ -14,9 +14,10 @@ pub struct Times {
     pub fastest: f64,
 }
 
-/// Both in turn on the items of the same numbers. What the Rust consumes is made before its run and not counted; what it returns is dropped in it.
-pub fn in_turn<T>(
-    mut port: impl FnMut(usize),
+/// Both in turn on the items of the same numbers. What each takes is made before its run and not counted; what the Rust returns is dropped in it.
+pub fn in_turn<P, T>(
+    lend: impl Fn(usize) -> P,
+    mut port: impl FnMut(P),
     make: impl Fn(usize) -> T,
     rust: impl Fn(T),
 ) -> Times {
@@ -24,14 +25,15 @@ pub fn in_turn<T>(
     let mut times = vec![];
     for run in 0..RUNS {
         let items = || run * calls..(run + 1) * calls;
+        let lent: Vec<P> = items().map(&lend).collect();
         let made: Vec<T> = items().map(&make).collect();
         // each is first every other time
         let pair = if run % 2 == 0 {
-            let first = nanoseconds(calls, || items().for_each(&mut port));
+            let first = nanoseconds(calls, || lent.into_iter().for_each(&mut port));
             [first, nanoseconds(calls, || made.into_iter().for_each(&rust))]
         } else {
             let first = nanoseconds(calls, || made.into_iter().for_each(&rust));
-            [nanoseconds(calls, || items().for_each(&mut port)), first]
+            [nanoseconds(calls, || lent.into_iter().for_each(&mut port)), first]
         };
         times.push(pair);
     }
