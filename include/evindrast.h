@@ -11,7 +11,7 @@
    - Every call ends with an answer, for every input, length and bit pattern. None allocates or keeps anything, and calls may run at the same time.
    - A NaN counts as positive, whatever its bits. One that evindrast_record or evindrast_sqrt_word gives has the bits 7ff8000000000000; the others' may
      have any bits of a NaN.
-   docs/PROMISES.md names the theorem behind each sentence here. */
+   docs/PROMISES.md names the promise of each function, and the theorems behind it. */
 #ifndef EVINDRAST_H
 #define EVINDRAST_H
 
