@@ -84,34 +84,29 @@ fn print(name: &str, n: &str, times: &Times) {
 }
 
 fn root(numbers: &[f64]) -> Times {
-    let number = |i: usize| numbers[i % numbers.len()];
-    in_turn(
-        number,
-        |x| _ = black_box(exports::sqrt(black_box(x))),
-        number,
-        |x| _ = black_box(black_box(x).sqrt()),
-    )
+    let number = |i: usize| black_box(numbers[i % numbers.len()]);
+    in_turn(number, |x| _ = black_box(exports::sqrt(x)), number, |x: f64| _ = black_box(x.sqrt()))
 }
 
-/// The cases in turn.
+/// The cases in turn, each hidden from the compiler before it is lent.
 fn lend<'a, K: Port>(cases: &'a [Case<K>]) -> impl Fn(usize) -> &'a Case<K> {
-    move |i| &cases[i % cases.len()]
+    move |i| black_box(&cases[i % cases.len()])
 }
 
 fn lu_port<'a, K: Port>(cases: &'a [Case<K>]) -> impl FnMut(&'a Case<K>) {
     let n = cases[0].n;
     let (mut factors, mut order, mut swaps) = (vec![0.0; cases[0].a.len()], vec![0; n], 0);
-    move |case| _ = black_box(K::lu(n, black_box(&case.a), &mut factors, &mut order, &mut swaps))
+    move |case| _ = black_box(K::lu(n, &case.a, &mut factors, &mut order, &mut swaps))
 }
 
 fn lu<K: Port>(cases: &[Case<K>]) -> Times {
-    let owned = |i: usize| cases[i % cases.len()].rust_a.clone();
-    let rust = |a: Square<K>| _ = black_box(LU::new(black_box(a)));
+    let owned = |i: usize| black_box(cases[i % cases.len()].rust_a.clone());
+    let rust = |a: Square<K>| _ = black_box(LU::new(a));
     in_turn(lend(cases), lu_port(cases), owned, rust)
 }
 
 fn lu_with_copy<K: Port>(cases: &[Case<K>]) -> Times {
-    let rust = |case: &Case<K>| _ = black_box(LU::new(black_box(&case.rust_a).clone()));
+    let rust = |case: &Case<K>| _ = black_box(LU::new(case.rust_a.clone()));
     in_turn(lend(cases), lu_port(cases), lend(cases), rust)
 }
 
@@ -120,14 +115,11 @@ fn solve<K: Port>(cases: &[Case<K>]) -> Times {
     in_turn(
         lend(cases),
         |case| {
-            let Case { n, factors, order, b, .. } = black_box(case);
+            let Case { n, factors, order, b, .. } = case;
             black_box(K::solve(*n, factors, order, b, &mut x));
         },
         lend(cases),
-        |case| {
-            let case = black_box(case);
-            black_box(case.rust_lu.solve(&case.rust_b));
-        },
+        |case| _ = black_box(case.rust_lu.solve(&case.rust_b)),
     )
 }
 
@@ -136,11 +128,11 @@ fn determinant<K: Port>(cases: &[Case<K>]) -> Times {
     in_turn(
         lend(cases),
         |case| {
-            let Case { n, factors, order, swaps, .. } = black_box(case);
+            let Case { n, factors, order, swaps, .. } = case;
             black_box(K::determinant(*n, factors, order, *swaps, &mut det));
         },
         lend(cases),
-        |case| _ = black_box(black_box(case).rust_lu.determinant()),
+        |case| _ = black_box(case.rust_lu.determinant()),
     )
 }
 
@@ -149,11 +141,11 @@ fn inverse<K: Port>(cases: &[Case<K>]) -> Times {
     in_turn(
         lend(cases),
         |case| {
-            let Case { n, factors, order, .. } = black_box(case);
+            let Case { n, factors, order, .. } = case;
             black_box(K::inverse(*n, factors, order, &mut out));
         },
         lend(cases),
-        |case| _ = black_box(black_box(case).rust_lu.inverse()),
+        |case| _ = black_box(case.rust_lu.inverse()),
     )
 }
 
@@ -164,10 +156,10 @@ fn jacobi(cases: &[Case<DualKind>]) -> Times {
     in_turn(
         lend(cases),
         |case| {
-            let (a, values, vectors) = (black_box(&case.symmetric), &mut values, &mut vectors);
+            let (a, values, vectors) = (&case.symmetric, &mut values, &mut vectors);
             black_box(exports::jacobi_eigenvalue(n, a, LIMIT, values, vectors, &mut sweeps));
         },
-        |i| cases[i % cases.len()].rust_symmetric.clone(),
-        |a: Square<DualKind>| _ = black_box(jacobi_eigenvalue(black_box(a), LIMIT)),
+        |i| black_box(cases[i % cases.len()].rust_symmetric.clone()),
+        |a: Square<DualKind>| _ = black_box(jacobi_eigenvalue(a, LIMIT)),
     )
 }
