@@ -42,24 +42,26 @@ fn pairs<K: Kind, D: DualNum>(random: &mut Random) -> Pairs {
         assert_eq!(words((a / b).parts()), words(&(x / y).parts()), "quotient, {}", K::NAME);
     }
     let compared = 2 * PAIRS * K::PARTS;
-    let (port_again, rust_again) = (port.clone(), rust.clone());
-    let product = move || {
+    let product = timed(port.clone(), rust.clone(), times, times);
+    let quotient = timed(port, rust, over, over);
+    Pairs { name: K::NAME, compared, product: Box::new(product), quotient: Box::new(quotient) }
+}
+
+/// An operation on both sides' pairs, to be timed.
+fn timed<P: Copy, R: Copy>(
+    port: Vec<[P; 2]>,
+    rust: Vec<[R; 2]>,
+    mine: impl Fn([P; 2]) -> P + Copy,
+    theirs: impl Fn([R; 2]) -> R + Copy,
+) -> impl Fn() -> Times {
+    move || {
         in_turn(
             |i| port[i % PAIRS],
-            |pair| _ = black_box(times(black_box(pair))),
+            |pair| _ = black_box(mine(black_box(pair))),
             |i| rust[i % PAIRS],
-            |pair| _ = black_box(times(black_box(pair))),
+            |pair| _ = black_box(theirs(black_box(pair))),
         )
-    };
-    let quotient = move || {
-        in_turn(
-            |i| port_again[i % PAIRS],
-            |pair| _ = black_box(over(black_box(pair))),
-            |i| rust_again[i % PAIRS],
-            |pair| _ = black_box(over(black_box(pair))),
-        )
-    };
-    Pairs { name: K::NAME, compared, product: Box::new(product), quotient: Box::new(quotient) }
+    }
 }
 
 #[inline]
