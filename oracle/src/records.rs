@@ -43,7 +43,8 @@ fn functions_of<K: Kind>(run: Run, called: &mut Called) -> Answers {
     let pool = Pool::new(&mut Random::new(run.seed, &name));
     let (mut cases, mut counts) = (vec![], vec![]);
     for description in FUNCTIONS.iter().filter(|d| has::<K>(d)) {
-        // A sequence of its own, so that a function more or less leaves the others' cases alone.
+        // A sequence of its own, so that a function more or less leaves the others' cases alone; named so that at
+        // the recorded seed no outside value differs between machines (README.md).
         let mut random =
             Random::new(run.seed, &format!("{:02x}-{name}", description.function as u8));
         let requests = requests(&mut random, &pool, description, K::PARTS, run.cases);
