@@ -1,7 +1,7 @@
 // LU, solve, determinant and inverse of matrices of `HyperDual`: row by row, four floats a record in the order re, eps1, eps2, eps1eps2.
+use super::linalg::lu_number;
 use super::linalg::solve_number;
 use hyperdual::HyperDualAnswer;
-use hyperdual_lu::LuAnswer;
 ghost use mathlib.Core.Path.{_≡_};
 ghost use Rattle.hyperdual.specs.Rules.{hyperDualAlgebra, hyperDualLayout};
 ghost use Rattle.matrices.specs.Entries.{luLeft, solveLeft, inverseLeft, determinantLeft};
@@ -19,18 +19,7 @@ pub extern "C" fn evindrast_hyperdual_lu(
     ensures { λ r. ⌜ (r, (now (beside .exit), (now (factors .exit), now (order .exit)))) ≡ luNumbered (now (beside .entry)) (luLeft hyperDualAlgebra hyperDualLayout n (now (a .entry)) (now (factors .entry)) (now (order .entry))) ⌝ }
 {
     let answer = hyperdual_lu::lu(n, a, factors, order);
-    match answer {
-        LuAnswer::Done { swaps } => {
-            *beside = swaps;
-            0
-        }
-        LuAnswer::Refused { number, column } => {
-            if number == algebra::SINGULAR {
-                *beside = column;
-            }
-            number
-        }
-    }
+    lu_number(answer, beside)
 }
 
 // x with a * x = b, from the factors and the order of a.

@@ -8,8 +8,27 @@ ghost use Rattle.dual.specs.Rules.{dualAlgebra, dualLayout};
 ghost use Rattle.matrices.specs.Entries.{luLeft, solveLeft, inverseLeft, determinantLeft};
 ghost use Rattle.jacobi.specs.Entry.{jacobiLeft};
 ghost use Rattle.algebra.specs.Outcome.{numberOf};
-ghost use Rattle.matrices.specs.Answers.{solveOutcome};
-ghost use Rattle.exports.specs.Numbered.{luNumbered, solveNumbered, determinantNumbered, jacobiNumbered};
+ghost use Rattle.matrices.specs.Answers.{luOutcome, luColumn, solveOutcome};
+ghost use Rattle.exports.specs.Numbered.{besideOf, luNumbered, solveNumbered, determinantNumbered, jacobiNumbered};
+
+// The number of an answer of LU; beside it the swap count, or at 6 the column.
+pub(crate) fn lu_number(answer: LuAnswer, beside: &mut usize) -> u32
+    ensures { λ r. ⌜ r ≡ numberOf (luOutcome answer) ⌝ }
+    ensures { λ _. ⌜ now (beside .exit) ≡ besideOf (now (beside .entry)) (luOutcome answer) (luColumn answer) ⌝ }
+{
+    match answer {
+        LuAnswer::Done { swaps } => {
+            *beside = swaps;
+            0
+        }
+        LuAnswer::Refused { number, column } => {
+            if number == algebra::SINGULAR {
+                *beside = column;
+            }
+            number
+        }
+    }
+}
 
 // The number of an answer of solve or inverse.
 pub(crate) fn solve_number(answer: SolveAnswer) -> u32
@@ -33,18 +52,7 @@ pub extern "C" fn evindrast_lu(
     ensures { λ r. ⌜ (r, (now (beside .exit), (now (factors .exit), now (order .exit)))) ≡ luNumbered (now (beside .entry)) (luLeft dualAlgebra dualLayout n (now (a .entry)) (now (factors .entry)) (now (order .entry))) ⌝ }
 {
     let answer = dual_lu::lu(n, a, factors, order);
-    match answer {
-        LuAnswer::Done { swaps } => {
-            *beside = swaps;
-            0
-        }
-        LuAnswer::Refused { number, column } => {
-            if number == algebra::SINGULAR {
-                *beside = column;
-            }
-            number
-        }
-    }
+    lu_number(answer, beside)
 }
 
 // x with a * x = b, from the factors and the order of a.

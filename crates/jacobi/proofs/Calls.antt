@@ -108,6 +108,12 @@ scratch-fits bound n h = (mul-le-mul-right 2 (mul-le-mul h h), mul-le-mul-right 
 pub scratch : (k m : ℕ) → k ≤ m → k ≡ length (take k (replicate m float.zero))
 scratch k m h = sym (length-take-le k (replicate m float.zero) (rw length-replicate h))
 
+-- the parts of a scratch made for the bound are as `run` asks
+pub scratch-suits : (bound n : ℕ) → n ≤ bound → n ≤ 32 → Square 2 n (take (n * n * 2) (replicate (bound * bound * 2) float.zero)) × (length (take (n * 2) (replicate (bound * 2) float.zero)) ≡ n * 2)
+scratch-suits bound n h small =
+    let fits = scratch-fits bound n h in
+    (square-of n _ small (sym (scratch _ (bound * bound * 2) (fits .0))), sym (scratch _ (bound * 2) (fits .1)))
+
 -- the entry, once the run is done
 pub entry-done : (n : ℕ) (a : List Float) (limit : ℕ) (d v values vectors : List Float) (sweeps rotations : ℕ) (stopped : Bool)
     → jacobiRefusal 2 n (length a) limit (length d) (length v) ≡ 0 → length values ≡ n * 2 → length vectors ≡ n * n * 2

@@ -18,7 +18,7 @@ use Rattle.algebra.specs.Outcome.{value, refused}
 use Rattle.algebra.proofs.Flat.{decode-length, decode-size, record-there, decode-at, decode-store, encode-decode, decode-blank, tabulate-length, tabulate-at}
 use Rattle.algebra.proofs.Inside.{getD-inside}
 use Rattle.algebra.proofs.Loop.{upto-turn, upto-end}
-use Rattle.matrices.specs.Entries.{luRefusal, solveRefusal, inverseRefusal, swapsRefusal, determinantRefusal, LuLeft, luAnswered, luFinish, luLeft, solveAnswered, solveLeft, inverseLeft, determinantLeft}
+use Rattle.matrices.specs.Entries.{luRefusal, solveRefusal, inverseRefusal, countRefusal, swapsRefusal, determinantRefusal, LuLeft, luAnswered, luFinish, luLeft, solveAnswered, solveLeft, inverseLeft, determinantLeft}
 use Rattle.matrices.specs.Determinant.{diagonal, determinantOf}
 use Rattle.matrices.specs.Inverse.{units, inverseOf}
 use Rattle.matrices.specs.Lu.{going, subtract, reduceRow, reduce, reduceRun, column, numbers, luOf}
@@ -26,7 +26,7 @@ use Rattle.matrices.specs.Matrix.{Square, Row, cell, store}
 use Rattle.matrices.specs.Order.{Order, isOrder, isOdd}
 use Rattle.matrices.specs.Solve.{Strided, less, eliminate, forwardFrom, backRow, back, substituteFrom, solveOf}
 use Rattle.matrices.specs.Steps.{runAfter, swapsOf}
-use Rattle.matrices.specs.Walk.{isBarred, marksNone, marksWith, lengthsRefusal, countRefusal}
+use Rattle.matrices.specs.Walk.{isBarred, marksNone, marksWith, lengthsRefusal}
 use Rattle.matrices.specs.declared.Marks.{Marks}
 use Rattle.matrices.specs.declared.Step.{Step}
 use Rattle.matrices.specs.declared.Step.the-variants.{Singular, Going}

@@ -1,6 +1,6 @@
 -- What the four entries answer and leave, over any record in flat floats: document 01's refusals in its order, then the work. Definitions only.
 use Prim.Native.Nat.{ℕ, _*_}
-use mathlib.Core.Bool.{cond, _&&_, _||_}
+use mathlib.Core.Bool.{Bool, cond, _&&_, _||_}
 use mathlib.Core.List.{List}
 use lib.Dec.{ltb, eqb}
 use lib.ListN.{length, replicate}
@@ -27,9 +27,13 @@ luRefusal w n a factors order =
 abbrev pub orderRefusal : ℕ → List ℕ → ℕ
 orderRefusal n order = cond (isOrder n order) 0 7
 
--- 8: the swap count is above 32, or of the other parity than the order
+-- 8: the swap count is above 32, or of the other parity than an order that is odd or not
+abbrev pub countRefusal : Bool → ℕ → ℕ
+countRefusal odd swaps = cond (ltb 32 swaps || differ (isOdd swaps) odd) 8 0
+
+-- 8, beside that order
 abbrev pub swapsRefusal : List ℕ → ℕ → ℕ
-swapsRefusal order swaps = cond (ltb 32 swaps || differ (isOdd swaps) (parity order)) 8 0
+swapsRefusal order swaps = countRefusal (parity order) swaps
 
 -- of solve. 1, 2, then 7
 abbrev pub solveRefusal : ℕ → ℕ → ℕ → List ℕ → ℕ → ℕ → ℕ

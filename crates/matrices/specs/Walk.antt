@@ -3,7 +3,7 @@ use Prim.Native.Nat.{ℕ, _-_, _*_, _/_, _%_, _^_}
 use mathlib.Core.Bool.{Bool, false, not, cond, _&&_, _||_}
 use lib.Bits.{bitOr, bitXor}
 use lib.Dec.{ltb, eqb}
-use Rattle.matrices.specs.Order.{differ, isOdd}
+use Rattle.matrices.specs.Order.{differ}
 use Rattle.matrices.specs.declared.Marks.{Marks}
 
 -- x is marked in w
@@ -27,7 +27,3 @@ abbrev pub lengthsRefusal : ℕ → ℕ → ℕ → ℕ → ℕ
 lengthsRefusal w n factors order =
     cond (ltb 32 n) 1
     (cond (eqb factors (n * n * w) && eqb order n) 0 2)
-
--- 8, by the order's parity
-abbrev pub countRefusal : Bool → ℕ → ℕ
-countRefusal odd swaps = cond (ltb 32 swaps || differ (isOdd swaps) odd) 8 0

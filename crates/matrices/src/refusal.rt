@@ -2,8 +2,8 @@
 use super::order;
 ghost use mathlib.Core.Path.{_≡_};
 ghost use Prim.Native.Nat.{ℕ, _≤_};
-ghost use Rattle.matrices.specs.Entries.{luRefusal, orderRefusal, solveRefusal, inverseRefusal};
-ghost use Rattle.matrices.specs.Walk.{lengthsRefusal, countRefusal};
+ghost use Rattle.matrices.specs.Entries.{luRefusal, orderRefusal, countRefusal, solveRefusal, inverseRefusal};
+ghost use Rattle.matrices.specs.Walk.{lengthsRefusal};
 
 // Of LU, by the lengths that are lent.
 pub fn lu(w: usize, n: usize, a: usize, factors: usize, order: usize) -> u32

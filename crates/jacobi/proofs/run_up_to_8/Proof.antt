@@ -1,6 +1,4 @@
-use mathlib.Core.Path.{sym}
-use native.Mathlib.Omega.{arith}
-use Rattle.jacobi.proofs.Calls.{square-of, scratch, scratch-fits}
+use Rattle.jacobi.proofs.Calls.{scratch, scratch-fits, scratch-suits}
 use borrow.Author.Needs.{needs}
 use Rattle.jacobi.proofs.run_up_to_8.Statement.{statement}
 use Rattle.jacobi.proofs.run_up_to_8.Tie as tie
@@ -35,14 +33,8 @@ slice-aggregate-run-3 c = scratch _ 16 (scratch-fits 8 _ (c .before .before .bef
 run-requires : tie.Need-run-requires
 run-requires c κs =
     let p = c .before .before .before .before .before .before .before .before .pre in
-    let fits = scratch-fits 8 _ (p .1 .1 .1 .0 .1) in
-    let row = sym (scratch _ 16 (fits .1)) in (
-      p .0,
-      (
-        (square-of _ _ (p .0 .small) (sym (scratch _ 128 (fits .0))), p .1 .0),
-        ((row, row), (p .1 .1 .0, (p .1 .1 .1 .0 .0, p .1 .1 .1 .1))),
-      ),
-    )
+    let suits = scratch-suits 8 _ (p .1 .1 .1 .0 .1) (p .0 .small) in
+    (p .0, ((suits .0, p .1 .0), ((suits .1, suits .1), (p .1 .1 .0, (p .1 .1 .1 .0 .0, p .1 .1 .1 .1)))))
 
 same-length : tie.Need-same-length
 same-length c = search needs

@@ -1,5 +1,5 @@
 use borrow.Author.Needs.{needs}
-use Rattle.exports.proofs.Crossed.{lu-done, lu-singular, lu-refused}
+use Rattle.exports.proofs.Crossed.{lu-crossed}
 use Rattle.exports.proofs.hyperdual_linalg.evindrast_hyperdual_lu.Statement.{statement}
 use Rattle.exports.proofs.hyperdual_linalg.evindrast_hyperdual_lu.Tie as tie
 
@@ -7,10 +7,5 @@ pub evindrast-hyperdual-lu-spec : {M : Type 1} → statement M
 evindrast-hyperdual-lu-spec =
     tie.close
     (tie.spec
-    (λ c κs. search needs) (λ c. search needs) (λ c. search needs) (λ c. search needs)
-    (λ c. search needs)
-    (λ c. search (needs, lu-done))
-    (λ c. search needs) (λ c. search needs)
-    (λ c. search (needs, lu-singular))
-    (λ c. search needs) (λ c. search needs)
-    (λ c. search (needs, lu-refused)))
+    (λ c κs. search needs) (λ c κs. search needs) (λ c. search needs) (λ c. search needs)
+    (λ c. search (needs, lu-crossed)))
