@@ -114,21 +114,17 @@ pub(crate) fn determinant_of(n: usize, a: &[f64], order: &[usize], swaps: usize)
     requires { ⌜ length (now order) ≡ n ⌝ }
     ensures { λ r. ⌜ outcome r ≡ determinantLeft dualAlgebra dualLayout n (now (a .entry)) (now (order .entry)) swaps ⌝ }
 {
-    let mut m = Marks {
-        seen: 0,
-        above: 0,
-        odd: false,
-    };
+    let mut m = Marks { word: 0, pairs: 0 };
     let mut x = Dual::ONE;
     for i in 0..n {
         let k = order[i];
-        if matrices::order::is_barred(n, m.seen, k) {
+        if k >= n {
             return DualAnswer::Refused(algebra::NOT_AN_ORDER);
         }
         m = matrices::order::mark(m, k);
         x = x.mul(dual_cells::read(a, i * n + i));
     }
-    let number = matrices::refusal::swap_count(m.odd, swaps);
+    let number = matrices::refusal::walked(n, m, swaps);
     if number != 0 {
         return DualAnswer::Refused(number);
     }

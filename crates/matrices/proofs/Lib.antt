@@ -9,6 +9,7 @@ pub mod Places
 pub mod Lu
 -- the order: permutations and parity, and their tests in one pass
 pub mod Permutation
+mod Times
 pub mod Walk
 pub mod Parity
 -- slopes never steer

@@ -26,7 +26,7 @@ use Rattle.matrices.specs.Matrix.{Square, Row, cell, store}
 use Rattle.matrices.specs.Order.{Order, isOrder, isOdd}
 use Rattle.matrices.specs.Solve.{Strided, less, eliminate, forwardFrom, backRow, back, substituteFrom, solveOf}
 use Rattle.matrices.specs.Steps.{runAfter, swapsOf}
-use Rattle.matrices.specs.Walk.{isBarred, marksNone, marksWith, lengthsRefusal}
+use Rattle.matrices.specs.Walk.{marksNone, marksWith, isFull, lengthsRefusal, walkedRefusal}
 use Rattle.matrices.specs.declared.Marks.{Marks}
 use Rattle.matrices.specs.declared.Step.{Step}
 use Rattle.matrices.specs.declared.Step.the-variants.{Singular, Going}
@@ -37,7 +37,7 @@ use Rattle.matrices.proofs.Laws.{Laws}
 use Rattle.matrices.proofs.Lu.{run-stops}
 use Rattle.matrices.proofs.Odd.{odd-mod}
 use Rattle.matrices.proofs.Starts.{solve-by, inverse-by}
-use Rattle.matrices.proofs.Walk.{free-below, Passing, passing, pass-turn, pass-stop, pass-end, Pairing, pairing, pair-turn, pair-end}
+use Rattle.matrices.proofs.Walk.{Marking, marking, mark-turn, mark-stop, mark-full, mark-odd}
 
 module _ {R : Type 0} {A : Algebra R} {L : Layout R} (Q : Laws A L) where
   -- ---- records in floats
@@ -201,22 +201,20 @@ module _ {R : Type 0} {A : Algebra R} {L : Layout R} (Q : Laws A L) where
 
   -- before turn i of the walk that tests the order as it multiplies
   pub record Walking (n : ℕ) (a : List Float) (o : List ℕ) (m : Marks) (x : R) (i : ℕ) : Type 0 where
-    pub passed : Passing n o (m .seen) i
-    pub paired : Pairing o (m .above) (m .odd) i
+    pub marks : Marking n o m i
     pub product : Multiplying n a x i
 
   pub walking : (n : ℕ) (a : List Float) (o : List ℕ) → Walking n a o marksNone (oneOf A) 0
-  walking n a o = record { passed = passing n o; paired = pairing o; product = multiplying n a }
+  walking n a o = record { marks = marking n o; product = multiplying n a }
 
-  -- what is not barred has a bit of a word
-  pub walk-bit : (n : ℕ) (a : List Float) (seen x : ℕ) (t : Bool) → Square (L .width) n a → t ≡ isBarred n seen x → t ≡ false → x < 64
-  walk-bit n a seen x t q et free = let z = q .small in omega (arith, free-below n seen x (sym et ∙ free))
+  -- what is below n has its bits
+  pub walk-bit : (n : ℕ) (a : List Float) (x : ℕ) → Square (L .width) n a → (n ≤ x → ⊥) → x < 32
+  walk-bit n a x q below = let z = q .small in omega arith
 
-  pub walk-turn : (n : ℕ) (a : List Float) (o : List ℕ) (m m′ : Marks) (x u y : R) (i : ℕ) (t : Bool) → Walking n a o m x i → i < n → length o ≡ n → t ≡ isBarred n (m .seen) (getD o i 0) → t ≡ false
+  pub walk-turn : {n : ℕ} {a : List Float} {o : List ℕ} {m : Marks} {x : R} {i : ℕ} → Walking n a o m x i → (m′ : Marks) (u y : R) → i < n → Square (L .width) n a → length o ≡ n → (n ≤ getD o i 0 → ⊥)
       → m′ ≡ marksWith m (getD o i 0) → u ≡ getD (decode L a) (i * n + i) (zeroOf A) → y ≡ A .mul x u → Walking n a o m′ y (i + 1)
-  walk-turn n a o m m′ x u y i t w h long et free em eu ey = subst (λ (k : Marks). Walking n a o k y (i + 1)) (sym em) record {
-    passed = pass-turn n o (m .seen) i (w .passed) (omega arith) (sym et ∙ free);
-    paired = pair-turn o (m .above) (m .odd) i (w .paired) (omega arith);
+  walk-turn {n} {a} {o} {m} {x} {i} w m′ u y h q long below em eu ey = subst (λ (k : Marks). Walking n a o k y (i + 1)) (sym em) record {
+    marks = mark-turn n o m i (w .marks) (omega arith) (omega arith) (q .small);
     product = multiply-turn n a x u y i (w .product) h eu ey;
   }
 
@@ -224,16 +222,16 @@ module _ {R : Type 0} {A : Algebra R} {L : Layout R} (Q : Laws A L) where
   right : (n : ℕ) (a : List Float) (o : List ℕ) (s : ℕ) → Square (L .width) n a → length o ≡ n → determinantRefusal (L .width) n (length a) o s ≡ cond (isOrder n o) (swapsRefusal o s) 7
   right n a o s q long = rw (le-ltb 32 n (q .small), eq-eqb _ _ (q .full), eq-eqb _ _ long) refl
 
-  pub walk-stop : (n : ℕ) (a : List Float) (o : List ℕ) (s : ℕ) (m : Marks) (x : R) (i : ℕ) (t : Bool) → Walking n a o m x i → i < n → Square (L .width) n a → length o ≡ n → t ≡ isBarred n (m .seen) (getD o i 0) → t ≡ true
+  pub walk-stop : (n : ℕ) (a : List Float) (o : List ℕ) (s : ℕ) (m : Marks) (x : R) (i : ℕ) → Walking n a o m x i → i < n → Square (L .width) n a → length o ≡ n → n ≤ getD o i 0
       → refused 7 ≡ determinantLeft A L n a o s
-  walk-stop n a o s m x i t w h q long et barred =
-      determinant-refused A L n a o s 7 (sym (right n a o s q long ∙ ap (λ (t : Bool). cond t (swapsRefusal o s) 7) (pass-stop n o (m .seen) i (w .passed) (omega arith) (sym et ∙ barred)))) (λ z. omega arith)
+  walk-stop n a o s m x i w h q long past =
+      determinant-refused A L n a o s 7 (sym (right n a o s q long ∙ ap (λ (t : Bool). cond t (swapsRefusal o s) 7) (mark-stop n o m i (w .marks) (omega arith) past))) (λ z. omega arith)
 
-  module _ (n : ℕ) (a : List Float) (o : List ℕ) (s : ℕ) (m : Marks) (x : R) (i k : ℕ) (w : Walking n a o m x i) (h : n ≤ i) (q : Square (L .width) n a) (long : length o ≡ n) (e : k ≡ countRefusal (m .odd) s) where
+  module _ (n : ℕ) (a : List Float) (o : List ℕ) (s : ℕ) (m : Marks) (x : R) (i k : ℕ) (w : Walking n a o m x i) (h : n ≤ i) (q : Square (L .width) n a) (long : length o ≡ n) (e : k ≡ walkedRefusal n m s) where
     counted : k ≡ determinantRefusal (L .width) n (length a) o s
     counted =
-        e ∙ ap (λ (t : Bool). countRefusal t s) (pair-end o (m .above) (m .odd) i (w .paired) (omega arith))
-        ∙ sym (right n a o s q long ∙ ap (λ (t : Bool). cond t (swapsRefusal o s) 7) (pass-end n o (m .seen) i (w .passed) (omega arith)))
+        e ∙ ap (λ (b : Bool). cond (isFull n (m .word)) (countRefusal b s) 7) (mark-odd n o m i (w .marks) (omega arith))
+        ∙ ap (λ (b : Bool). cond b (swapsRefusal o s) 7) (mark-full n o m i (w .marks) (omega arith) long) ∙ sym (right n a o s q long)
 
     pub walk-refused : (k ≡ 0 → ⊥) → refused k ≡ determinantLeft A L n a o s
     walk-refused ne = determinant-refused A L n a o s k counted ne

@@ -1,9 +1,9 @@
 -- How the code tests a lent order in one walk: numbers marked in words, bit x for x; and determinant's refusals in the parts in which it finds them. Definitions only.
-use Prim.Native.Nat.{ℕ, _-_, _*_, _/_, _%_, _^_}
-use mathlib.Core.Bool.{Bool, false, not, cond, _&&_, _||_}
-use lib.Bits.{bitOr, bitXor}
+use Prim.Native.Nat.{ℕ, _+_, _-_, _*_, _/_, _%_, _^_}
+use mathlib.Core.Bool.{Bool, not, cond, _&&_, _||_}
+use lib.Bits.{bitXor}
 use lib.Dec.{ltb, eqb}
-use Rattle.matrices.specs.Order.{differ}
+use Rattle.matrices.specs.Entries.{countRefusal}
 use Rattle.matrices.specs.declared.Marks.{Marks}
 
 -- x is marked in w
@@ -14,16 +14,28 @@ marked w x = eqb (w / 2 ^ x % 2) 1
 abbrev pub isBarred : ℕ → ℕ → ℕ → Bool
 isBarred n seen x = not (ltb x n) || marked seen x
 
+-- x in a word: bit 32 + x for itself, and a bit for each number below it
+abbrev pub markOf : ℕ → ℕ
+markOf x = 2 ^ x * 2 ^ 32 + (2 ^ x - 1)
+
 -- nothing has come
 abbrev pub marksNone : Marks
-marksNone = record { seen = 0; above = 0; odd = false }
+marksNone = record { word = 0; pairs = 0 }
 
--- x has come: it is seen, it is above those below it, and it makes as many wrong pairs as numbers above it have come
+-- x has come: it makes as many wrong pairs as numbers above it have come, an odd number of them where bit x is set
 abbrev pub marksWith : Marks → ℕ → Marks
-marksWith m x = record { seen = bitOr (m .seen) (2 ^ x); above = bitXor (m .above) (2 ^ x - 1); odd = differ (marked (m .above) x) (m .odd) }
+marksWith m x = record { word = bitXor (m .word) (markOf x); pairs = bitXor (m .pairs) (m .word / 2 ^ x) }
+
+-- the numbers below n have come, each an odd number of times, and no others
+abbrev pub isFull : ℕ → ℕ → Bool
+isFull n word = eqb (word / 2 ^ 32) (2 ^ n - 1)
 
 -- 1 and 2 of determinant
 abbrev pub lengthsRefusal : ℕ → ℕ → ℕ → ℕ → ℕ
 lengthsRefusal w n factors order =
     cond (ltb 32 n) 1
     (cond (eqb factors (n * n * w) && eqb order n) 0 2)
+
+-- 7 and 8 of determinant, by what the walk has marked
+abbrev pub walkedRefusal : ℕ → Marks → ℕ → ℕ
+walkedRefusal n m swaps = cond (isFull n (m .word)) (countRefusal (eqb (m .pairs % 2) 1) swaps) 7

@@ -11,12 +11,11 @@ pub struct Pivot {
     pub row: usize,
 }
 
-// What has come of an order on a walk over it. Bit x of `seen`: whether x has. Bit x of `above`: whether an odd number of what has come is above x.
-// `odd`: whether an odd number of its pairs stand the wrong way round.
+// What has come of an order of numbers below 32, on a walk over it. Bit x of `word`: whether an odd number of what has come is above x; bit 32 + x: whether x
+// has come an odd number of times. Bit 0 of `pairs`: whether an odd number of pairs stand the wrong way round; its other bits mean nothing.
 pub struct Marks {
-    pub seen: u64,
-    pub above: u64,
-    pub odd: bool,
+    pub word: u64,
+    pub pairs: u64,
 }
 
 // Where a column of LU leaves the run.

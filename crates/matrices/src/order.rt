@@ -6,7 +6,7 @@ ghost use lib.ListN.{length, replicate};
 ghost use Rattle.matrices.specs.Matrix.{exchange};
 ghost use Rattle.matrices.specs.Lu.{numbers};
 ghost use Rattle.matrices.specs.Order.{isOrder, differ};
-ghost use Rattle.matrices.specs.Walk.{isBarred, marksWith};
+ghost use Rattle.matrices.specs.Walk.{isBarred, marksWith, isFull};
 
 // 0, 1, .., one an entry.
 pub fn number(order: &mut [usize])
@@ -41,7 +41,7 @@ pub fn exchange(order: &mut [usize], p: usize, q: usize)
 }
 
 // x may not come next: it is not below n, or its bit is set in `seen`.
-pub fn is_barred(n: usize, seen: u64, x: usize) -> bool
+fn is_barred(n: usize, seen: u64, x: usize) -> bool
     requires { ⌜ n ≤ 32 ⌝ }
     ensures { λ r. ⌜ r ≡ isBarred n seen x ⌝ }
 {
@@ -76,18 +76,22 @@ pub fn differs(t: bool, b: bool) -> bool
     if t { !b } else { b }
 }
 
-// x has come: as many more pairs stand the wrong way round as numbers above it have come.
+// x has come: as many more pairs stand the wrong way round as numbers above it have come. In the word, it changes its own bit 32 + x and those of the numbers below it.
 pub fn mark(m: Marks, x: usize) -> Marks
-    requires { ⌜ x < 64 ⌝ }
+    requires { ⌜ x < 32 ⌝ }
     ensures { λ r. ⌜ r ≡ marksWith m x ⌝ }
 {
-    let seen = m.seen;
-    let above = m.above;
-    let odd = differs((above >> x) % 2 == 1, m.odd);
-    let bit = 1u64 << x;
+    let word = m.word;
     Marks {
-        seen: seen | bit,
-        above: above ^ (bit - 1),
-        odd,
+        word: word ^ ((0x1_0000_0001 << x) - 1),
+        pairs: m.pairs ^ (word >> x),
     }
+}
+
+// The numbers below n have come, each an odd number of times, and no others.
+pub(crate) fn is_full(n: usize, word: u64) -> bool
+    requires { ⌜ n ≤ 32 ⌝ }
+    ensures { λ r. ⌜ r ≡ isFull n word ⌝ }
+{
+    word >> 32 == (1 << n) - 1
 }

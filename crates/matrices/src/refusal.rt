@@ -1,9 +1,10 @@
 // The refusals of the four entries, by number, in document 01's order; 0 where none applies. A record has w floats.
+use super::Marks;
 use super::order;
 ghost use mathlib.Core.Path.{_≡_};
 ghost use Prim.Native.Nat.{ℕ, _≤_};
 ghost use Rattle.matrices.specs.Entries.{luRefusal, orderRefusal, countRefusal, solveRefusal, inverseRefusal};
-ghost use Rattle.matrices.specs.Walk.{lengthsRefusal};
+ghost use Rattle.matrices.specs.Walk.{lengthsRefusal, walkedRefusal};
 
 // Of LU, by the lengths that are lent.
 pub fn lu(w: usize, n: usize, a: usize, factors: usize, order: usize) -> u32
@@ -100,7 +101,7 @@ pub fn determinant(w: usize, n: usize, factors: usize, order: usize) -> u32
 }
 
 // Of a swap count beside an order whose parity is `odd`.
-pub fn swap_count(odd: bool, swaps: usize) -> u32
+fn swap_count(odd: bool, swaps: usize) -> u32
     ensures { λ r. ⌜ r ≡ countRefusal odd swaps ⌝ }
 {
     if 32 < swaps {
@@ -110,4 +111,16 @@ pub fn swap_count(odd: bool, swaps: usize) -> u32
         return algebra::WRONG_SWAPS;
     }
     0
+}
+
+// Of an order that was walked over to its end, and of the swap count beside it.
+pub fn walked(n: usize, m: Marks, swaps: usize) -> u32
+    requires { ⌜ n ≤ 32 ⌝ }
+    ensures { λ r. ⌜ r ≡ walkedRefusal n m swaps ⌝ }
+{
+    if order::is_full(n, m.word) {
+        swap_count(m.pairs % 2 == 1, swaps)
+    } else {
+        algebra::NOT_AN_ORDER
+    }
 }

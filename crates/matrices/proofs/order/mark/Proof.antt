@@ -1,35 +1,34 @@
-use mathlib.Core.Path.{_≡_}
-use Prim.Native.Nat.{ℕ, _-_, _^_}
-use mathlib.Core.Bool.{Bool}
-use lib.Bits.{bitOr, bitXor}
-use lib.Pow.{pow-pos}
-use borrow.Author.Needs.{needs}
+use Prim.Native.Nat.{ℕ, _-_, _*_, _/_, _%_, _^_, _<_}
+use mathlib.Core.Path.{_≡_, _∙_}
+use lib.Bits.{bitXor}
+use lib.Pow.{pow-pos, shl-exact}
 use native.Mathlib.Omega.{arith}
-use Rattle.matrices.specs.declared.Marks.{Marks}
-use Rattle.matrices.specs.Walk.{marked, marksWith}
-use Rattle.matrices.specs.Order.{differ}
-use Rattle.matrices.proofs.Walk.{one-shifted}
+use borrow.Author.Needs.{needs}
+use Rattle.matrices.specs.Walk.{markOf}
 use Rattle.matrices.proofs.order.mark.Statement.{statement}
 use Rattle.matrices.proofs.order.mark.Tie as tie
 
--- from the bit as the code shifts it
-marks-by : (m : Marks) (x bit : ℕ) (odd : Bool) → bit ≡ 2 ^ x → odd ≡ differ (marked (m .above) x) (m .odd) → record { seen = bitOr (m .seen) bit; above = bitXor (m .above) (bit - 1); odd = odd } ≡ marksWith m x
-marks-by m x bit odd e f = λ i. record { seen = bitOr (m .seen) (e i); above = bitXor (m .above) (e i - 1); odd = f i }
+-- as the code shifts it
+shifted : (x : ℕ) → x < 32 → 4294967297 * 2 ^ x % 2 ^ 64 ≡ 4294967297 * 2 ^ x
+shifted x h = shl-exact 33 x 64 (omega arith) (omega arith)
 
-shr-differs : tie.Need-shr-differs
-shr-differs c = omega arith
+mark-by : (x : ℕ) → x < 32 → 4294967297 * 2 ^ x % 2 ^ 64 - 1 ≡ markOf x
+mark-by x h = let e = shifted x h in let p = pow-pos x in omega arith
 
-differs-requires : tie.Need-differs-requires
-differs-requires c κs = search needs
+shl-t5 : tie.Need-shl-t5
+shl-t5 c = search needs
 
-shl-bit : tie.Need-shl-bit
-shl-bit c = omega arith
+sub-t6 : tie.Need-sub-t6
+sub-t6 c = omega (arith, shifted (c .args .x) (search needs), pow-pos (c .args .x))
 
-sub-t7 : tie.Need-sub-t7
-sub-t7 c = omega (arith, one-shifted (c .before .args .x) (c .before .pre), pow-pos (c .before .args .x))
+shr-t9 : tie.Need-shr-t9
+shr-t9 c = search needs
 
 returns : tie.Need-returns
-returns c = marks-by (c .before .args .m) _ _ _ (one-shifted (c .before .args .x) (c .before .pre)) (c .differs .ensures)
+returns c =
+    let m = c .before .args .m in
+    let x = c .before .args .x in
+    λ i. record { word = bitXor (m .word) (mark-by x (c .before .pre) i); pairs = bitXor (m .pairs) (m .word / 2 ^ x) }
 
 pub mark-spec : {M : Type 1} → statement M
-mark-spec = tie.close (tie.spec shr-differs differs-requires shl-bit sub-t7 returns)
+mark-spec = tie.close (tie.spec shl-t5 sub-t6 shr-t9 returns)
