@@ -13,59 +13,12 @@ pub struct Answer {
     pub words: [u64; 16],
 }
 
-// A whole number as an answer.
-pub fn of_number(n: u64) -> Answer {
-    let mut words = [0u64; 16];
-    words[0] = n;
-    Answer { number: 0, words }
-}
-
-// A truth as an answer: 1 where it holds.
-pub fn of_truth(holds: bool) -> Answer {
-    of_number(if holds { 1 } else { 0 })
-}
-
-// A refusal as an answer.
-pub fn of_refusal(number: u32) -> Answer {
-    Answer {
-        number: number as u64,
-        words: [0u64; 16],
-    }
-}
-
 // What no recorded answer equals.
 pub fn no_answer() -> Answer {
     Answer {
         number: u64::MAX,
         words: [0u64; 16],
     }
-}
-
-// Puts the words of a record's parts, from number `from` on.
-fn put_words(words: &mut [u64; 16], floats: [f64; 8], from: usize) {
-    if 8 < from {
-        return;
-    }
-    let mut i = 0usize;
-    while i < 8 {
-        words[from + i] = real::word_of_float(floats[i]);
-        i += 1;
-    }
-}
-
-// A record's parts, zeros after them, as an answer.
-pub fn of_record(floats: [f64; 8]) -> Answer {
-    let mut words = [0u64; 16];
-    put_words(&mut words, floats, 0);
-    Answer { number: 0, words }
-}
-
-// Two records of so many parts as an answer.
-pub fn of_records(first: [f64; 8], second: [f64; 8], parts: usize) -> Answer {
-    let mut words = [0u64; 16];
-    put_words(&mut words, first, 0);
-    put_words(&mut words, second, parts);
-    Answer { number: 0, words }
 }
 
 // The answers are the same.
@@ -81,11 +34,6 @@ fn same(a: Answer, b: Answer) -> bool {
         i += 1;
     }
     true
-}
-
-// One answer reached in two ways: none where they differ.
-pub fn both(a: Answer, b: Answer) -> Answer {
-    if same(a, b) { a } else { no_answer() }
 }
 
 // The answer that the line holds.

@@ -1,27 +1,24 @@
 // The cases of records-KIND.txt and runs-KIND.txt (oracle/README.md), read. A case is read into a line of words: the function
-// at 0, the number of its records at 1, how many floats they have at 2, extras from 4, the answer's number at 6, the answer's words from 8.
-// The records' parts are read into flat floats.
+// at 0, the number of its records at 1, how many words they have at 2, extras from 4, the answer's number at 6, the answer's words from 8.
+// The records' parts are read into words one after the other.
 use super::Place;
 use super::tables;
+ghost use Prim.Native.Nat.{_≤_};
 
 pub const FUNCTION: usize = 0;
 
 const COUNT: usize = 1;
 
-pub const LENGTH: usize = 2;
+const LENGTH: usize = 2;
 
 const EXTRAS: usize = 4;
-
-pub const FIRST: usize = 4;
-
-pub const SECOND: usize = 5;
 
 pub(crate) const NUMBER: usize = 6;
 
 pub(crate) const ANSWER: usize = 8;
 
 // A run has at most 12 records of at most 8 parts.
-pub const FLOATS: usize = 96;
+const WORDS: usize = 96;
 
 // Above the count of any run, so that a file out of order is read to its end and no further.
 const LONGEST: u64 = 16;
@@ -96,15 +93,15 @@ fn read_words(
     }
 }
 
-// The float at the last of the places.
-fn pooled(pool: &[u64; 256], places: u64) -> f64 {
+// The word at the last of the places.
+fn pooled(pool: &[u64; 256], places: u64) -> u64 {
     let k = places % 256;
-    real::float_of_word(pool[k as usize])
+    pool[k as usize]
 }
 
-// Puts the parts of a record of places into the floats, up to number `end`.
-fn put_record(pool: &[u64; 256], places: u64, floats: &mut [f64; 96], end: usize, parts: usize) {
-    if FLOATS < end {
+// Puts the parts of a record of places into the words, up to number `end`.
+fn put_record(pool: &[u64; 256], places: u64, words: &mut [u64; 96], end: usize, parts: usize) {
+    if WORDS < end {
         return;
     }
     let mut at = end;
@@ -112,20 +109,20 @@ fn put_record(pool: &[u64; 256], places: u64, floats: &mut [f64; 96], end: usize
     let mut turns = super::least(parts, end);
     while turns > 0 {
         at = at - 1;
-        floats[at] = pooled(pool, left);
+        words[at] = pooled(pool, left);
         left = left / 256;
         turns -= 1;
     }
 }
 
-// Reads the line's records into the floats, one after the other.
+// Reads the line's records into the words, one after the other.
 fn read_records(
     file: i32,
     buffer: &mut [u8; 4096],
     place: Place,
     pool: &[u64; 256],
     line: &mut [u64; 32],
-    floats: &mut [f64; 96],
+    words: &mut [u64; 96],
     parts: usize,
 ) -> Place {
     let mut here = place;
@@ -135,24 +132,25 @@ fn read_records(
         let w = super::next_word(file, buffer, here);
         here = w.place;
         length = std::num::wrapping_add_usize(length, parts);
-        put_record(pool, w.word, floats, length, parts);
+        put_record(pool, w.word, words, length, parts);
         left -= 1;
     }
     line[LENGTH] = length as u64;
     here
 }
 
-// The words of an answer: a whole number, or one or two records.
-pub(crate) fn answer_words(function: u64, parts: usize) -> usize {
+// How many words an answer has: a whole number, or one or two records.
+pub fn answer_words(function: u64, parts: usize) -> usize
+    ensures { λ r. ⌜ r ≤ 16 ⌝ }
+{
     let s = tables::shape_of(function);
     let answers = s.answers;
-    if answers == 0 {
-        return 1;
+    let record = super::least(parts, 8);
+    match answers {
+        0 => 1,
+        1 => record,
+        _ => record + record,
     }
-    if answers == 1 {
-        return parts;
-    }
-    if parts <= 8 { 2 * parts } else { 16 }
 }
 
 // Reads a case of a record with so many parts. At the end of the file nothing more is read, so its last words say whether it is whole.
@@ -162,7 +160,7 @@ pub fn read_case(
     place: Place,
     pool: &[u64; 256],
     line: &mut [u64; 32],
-    floats: &mut [f64; 96],
+    words: &mut [u64; 96],
     parts: usize,
 ) -> Read {
     let head = read_words(file, buffer, place, line, FUNCTION, 1);
@@ -172,7 +170,7 @@ pub fn read_case(
     line[COUNT] = s.records;
     let count = read_words(file, buffer, place, line, COUNT, s.counts);
     let place = count.place;
-    let place = read_records(file, buffer, place, pool, line, floats, parts);
+    let place = read_records(file, buffer, place, pool, line, words, parts);
     let extras = read_words(file, buffer, place, line, EXTRAS, s.extras);
     let place = extras.place;
     let number = read_words(file, buffer, place, line, NUMBER, s.numbers);
@@ -187,23 +185,26 @@ pub fn read_case(
     )
 }
 
-// A case's float number at + part, 0 where there is none.
-pub fn part(floats: &[f64; 96], at: usize, part: usize) -> f64 {
-    if FLOATS <= at {
-        return 0.0;
-    }
-    if part < FLOATS - at {
-        floats[at + part]
-    } else {
-        0.0
-    }
+// How many words the line's records have, as far as there are.
+pub fn length(line: &[u64; 32]) -> usize
+    ensures { λ r. ⌜ r ≤ 96 ⌝ }
+{
+    super::least(line[LENGTH] as usize, WORDS)
 }
 
-// The floats of a run: all there are where it says that it has more.
-pub fn run_of(floats: &[f64], length: u64) -> &[f64] {
-    let n = length as usize;
-    if n <= floats.len() {
-        return &floats[0..n];
+// What the first extra is as powi's exponent.
+pub fn exponent(line: &[u64; 32]) -> i32 {
+    tables::exponent(line[EXTRAS])
+}
+
+// The words of the extras that are floats: all but powi's exponent.
+pub fn floats(line: &[u64; 32]) -> &[u64] {
+    let words = &line[..];
+    let function = line[FUNCTION];
+    if function == tables::POWI {
+        return &words[EXTRAS + 1..EXTRAS + 2];
     }
-    floats
+    let s = tables::shape_of(function);
+    let count = super::least(s.extras, 2);
+    &words[EXTRAS..EXTRAS + count]
 }

@@ -1,5 +1,5 @@
-// The table of functions in oracle/README.md: what a case of each holds, and its request.
-use derivatives::Function;
+// The table of functions in oracle/README.md: what a case of each holds.
+pub(crate) const POWI: u64 = 0x1b;
 
 // How many fields of each sort a case has, by oracle/README.md, and how many records its answer has: none is a whole number.
 pub(crate) struct Shape {
@@ -8,12 +8,6 @@ pub(crate) struct Shape {
     pub extras: usize,
     pub numbers: usize,
     pub answers: usize,
-}
-
-// A request by its function number, where that is one.
-pub enum Request {
-    Is(Function),
-    Not,
 }
 
 impl Shape {
@@ -62,7 +56,7 @@ pub(crate) fn shape_of(function: u64) -> Shape {
 }
 
 // powi's exponent from its 64-bit two's complement.
-fn exponent(w: u64) -> i32 {
+pub(crate) fn exponent(w: u64) -> i32 {
     if w <= 0x7fff_ffff {
         return w as i32;
     }
@@ -71,62 +65,4 @@ fn exponent(w: u64) -> i32 {
         return !(below as i32);
     }
     0
-}
-
-// The powers, roots, exponentials and logarithms.
-fn power(function: u64, first: u64, second: u64) -> Request {
-    let a = real::float_of_word(first);
-    let b = real::float_of_word(second);
-    match function {
-        0x18..=0x19 => Request::Is(Function::Recip),
-        0x1a => Request::Is(Function::Sqrt),
-        0x1b => Request::Is(Function::Powi {
-            exp: exponent(first),
-            pow3: b,
-        }),
-        0x1c => Request::Is(Function::Powf { n: a, pow3: b }),
-        0x1d => Request::Is(Function::Cbrt { cbrt: a }),
-        0x1e => Request::Is(Function::Exp { exp: a }),
-        0x1f => Request::Is(Function::Exp2 { exp2: a }),
-        0x20 => Request::Is(Function::ExpM1 { exp_m1: a, exp: b }),
-        0x21 => Request::Is(Function::Ln { ln: a }),
-        0x22 => Request::Is(Function::Log { log: a, ln_base: b }),
-        0x23 => Request::Is(Function::Log2 { log2: a }),
-        0x24 => Request::Is(Function::Log10 { log10: a }),
-        0x25 => Request::Is(Function::Ln1p { ln_1p: a }),
-        _ => Request::Not,
-    }
-}
-
-// The functions of an angle, of an area, and their inverses.
-fn angle(function: u64, first: u64, second: u64) -> Request {
-    let a = real::float_of_word(first);
-    let b = real::float_of_word(second);
-    match function {
-        0x26 => Request::Is(Function::Sin { sin: a, cos: b }),
-        0x27 => Request::Is(Function::Cos { sin: a, cos: b }),
-        0x29 => Request::Is(Function::Tan { sin: a, cos: b }),
-        0x2a => Request::Is(Function::Asin { asin: a }),
-        0x2b => Request::Is(Function::Acos { acos: a }),
-        0x2c => Request::Is(Function::Atan { atan: a }),
-        0x2e => Request::Is(Function::Sinh { sinh: a, cosh: b }),
-        0x2f => Request::Is(Function::Cosh { sinh: a, cosh: b }),
-        0x30 => Request::Is(Function::Tanh { sinh: a, cosh: b }),
-        0x31 => Request::Is(Function::Asinh { asinh: a }),
-        0x32 => Request::Is(Function::Acosh { acosh: a }),
-        0x33 => Request::Is(Function::Atanh { atanh: a }),
-        0x34 => Request::Is(Function::SphJ0 { sin: a, cos: b }),
-        0x35 => Request::Is(Function::SphJ1 { sin: a, cos: b }),
-        0x36 => Request::Is(Function::SphJ2 { sin: a, cos: b }),
-        _ => Request::Not,
-    }
-}
-
-// The request of a function number, with its extras.
-pub fn request_of(function: u64, first: u64, second: u64) -> Request {
-    if function < 0x26 {
-        power(function, first, second)
-    } else {
-        angle(function, first, second)
-    }
 }

@@ -5,10 +5,10 @@ use Rattle.replay.proofs.records.put_record.Statement.{statement}
 use Rattle.replay.proofs.records.put_record.Tie as tie
 
 abbrev Inv-loop : tie.InvT-loop
-Inv-loop pool places floats₀ end parts at₀ left₀ turns₀ floats at left turns = (turns ≤ at) × (at ≤ 96)
+Inv-loop pool places words₀ end parts at₀ left₀ turns₀ words at left turns = (turns ≤ at) × (at ≤ 96)
 
 abbrev μ-loop : tie.MeasureT-loop
-μ-loop pool places floats₀ end parts at₀ left₀ turns₀ floats at left turns = turns
+μ-loop pool places words₀ end parts at₀ left₀ turns₀ words at left turns = turns
 
 returns : tie.Need-returns Inv-loop μ-loop
 returns c = search needs
@@ -25,11 +25,11 @@ sub-at c = search needs
 pooled-requires : tie.Need-pooled-requires Inv-loop μ-loop
 pooled-requires c κs = search needs
 
-mul-floats : tie.Need-mul-floats Inv-loop μ-loop
-mul-floats c = search needs
+mul-words : tie.Need-mul-words Inv-loop μ-loop
+mul-words c = search needs
 
-element-write-floats : tie.Need-element-write-floats Inv-loop μ-loop
-element-write-floats c = search needs
+element-write-words : tie.Need-element-write-words Inv-loop μ-loop
+element-write-words c = search needs
 
 sub-turns : tie.Need-sub-turns Inv-loop μ-loop
 sub-turns c = search needs
@@ -54,8 +54,8 @@ put-record-spec =
     loop-holds
     sub-at
     pooled-requires
-    mul-floats
-    element-write-floats
+    mul-words
+    element-write-words
     sub-turns
     loop-less
     loop-again

@@ -4,11 +4,11 @@ use Rattle.replay.proofs.records.read_records.Statement.{statement}
 use Rattle.replay.proofs.records.read_records.Tie as tie
 
 abbrev Inv-loop : tie.InvT-loop
-Inv-loop file buffer₀ pool line floats₀ parts here₀ length₀ left₀ buffer floats here length left =
+Inv-loop file buffer₀ pool line words₀ parts here₀ length₀ left₀ buffer words here length left =
     Unit {0}
 
 abbrev μ-loop : tie.MeasureT-loop
-μ-loop file buffer₀ pool line floats₀ parts here₀ length₀ left₀ buffer floats here length left = left
+μ-loop file buffer₀ pool line words₀ parts here₀ length₀ left₀ buffer words here length left = left
 
 element-copy-out-left : tie.Need-element-copy-out-left Inv-loop μ-loop
 element-copy-out-left c = search needs

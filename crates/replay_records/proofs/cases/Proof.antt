@@ -1,13 +1,13 @@
--- `replay_dual::cases` ends: turns are counted down. Assumes nothing.
+-- `replay_records::cases` ends: turns are counted down. Assumes nothing.
 use borrow.Author.Needs.{needs}
-use Rattle.replay_dual.proofs.cases.Statement.{statement}
-use Rattle.replay_dual.proofs.cases.Tie as tie
+use Rattle.replay_records.proofs.cases.Statement.{statement}
+use Rattle.replay_records.proofs.cases.Tie as tie
 
 abbrev Inv-loop : tie.InvT-loop
-Inv-loop file counts₀ buffer₀ pool here₀ turns₀ counts buffer here turns = Unit {0}
+Inv-loop kind file counts₀ buffer₀ pool here₀ turns₀ counts buffer here turns = Unit {0}
 
 abbrev μ-loop : tie.MeasureT-loop
-μ-loop file counts₀ buffer₀ pool here₀ turns₀ counts buffer here turns = turns
+μ-loop kind file counts₀ buffer₀ pool here₀ turns₀ counts buffer here turns = turns
 
 read-head-requires : tie.Need-read-head-requires Inv-loop μ-loop
 read-head-requires c κs = search needs
