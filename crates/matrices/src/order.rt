@@ -31,7 +31,7 @@ pub fn clear(order: &mut [usize])
 }
 
 // The entries p and q exchanged.
-pub fn exchange(order: &mut [usize], p: usize, q: usize)
+pub(crate) fn exchange(order: &mut [usize], p: usize, q: usize)
     requires { ⌜ (p < length (now order)) × (q < length (now order)) ⌝ }
     ensures { λ _. ⌜ now (order .exit) ≡ Rattle.matrices.specs.Matrix.exchange 0 p q (now (order .entry)) ⌝ }
 {
@@ -52,7 +52,7 @@ fn is_barred(n: usize, seen: u64, x: usize) -> bool
 }
 
 // Every number is below n, and no two are equal.
-pub fn is_order(n: usize, order: &[usize]) -> bool
+pub(crate) fn is_order(n: usize, order: &[usize]) -> bool
     requires { ⌜ n ≤ 32 ⌝ }
     ensures { λ r. ⌜ r ≡ isOrder n (now (order .entry)) ⌝ }
 {
@@ -70,7 +70,7 @@ pub fn is_order(n: usize, order: &[usize]) -> bool
 }
 
 // One or the other, not both.
-pub fn differs(t: bool, b: bool) -> bool
+pub(crate) fn differs(t: bool, b: bool) -> bool
     ensures { λ r. ⌜ r ≡ differ t b ⌝ }
 {
     if t { !b } else { b }
