@@ -1,18 +1,18 @@
--- A walk over an order with numbers marked in words, bit x for x: what is left decides whether it is a permutation, and its parity. Assumes nothing.
+-- A walk over an order with numbers marked in a word: what is left decides whether it is a permutation, and its parity. Assumes nothing.
 use Prim.Native.Nat.{ℕ, zero, suc, _+_, _-_, _*_, _/_, _%_, _^_, _≤_, _<_}
 use mathlib.Core.Path.{_≡_, refl, ap, sym, _∙_}
-use mathlib.Core.Bool.{Bool, true, false, not, cond, _&&_, _||_, Bool·not-not}
+use mathlib.Core.Bool.{Bool, true, false, cond, _&&_, Bool·not-not}
 use mathlib.Core.List.{List, [], _∷_}
 use native.Mathlib.Nat.{zero-div, div-eq-of-lt, mod-lt, pow-suc}
 use native.Mathlib.Decide.{decLt, ℕ-discrete}
 use native.Mathlib.Omega.{arith}
-use lib.Bits.{bitOr, bitXor, or-shr, or-mod, xor-shr, xor-mod}
+use lib.Bits.{bitXor, xor-shr, xor-mod}
 use lib.Pow.{pow-pos, pow-mono, pow-lt, pow-add, shl-shr, shl-exact, shr-shr, ones-split, ones-lt, high, low, field, mod-mod-pow}
 use lib.Dec.{ltb, eqb}
 use lib.ListN.{length, getD, drop}
 use borrow.Author.Tests.{lt-ltb, le-ltb, ltb-true, eq-eqb, ne-eqb}
-use Rattle.matrices.specs.Order.{absent, isOrder, differ, oddBelow, parity}
-use Rattle.matrices.specs.Walk.{marked, isBarred, markOf, marksNone, marksWith, isFull}
+use Rattle.matrices.specs.Order.{isOrder, differ, oddBelow, parity}
+use Rattle.matrices.specs.Walk.{marked, markOf, marksNone, marksWith, isFull}
 use Rattle.matrices.specs.declared.Marks.{Marks}
 use Rattle.matrices.proofs.Rest.{rest-turn, rest-end, differ-turn, differ-false}
 use Rattle.matrices.proofs.Times.{oddly, allBelow, order-below, order-oddly, oddly-order}
@@ -23,24 +23,12 @@ marked-zero : (y : ℕ) → marked 0 y ≡ false
 marked-zero y = ap (λ (k : ℕ). eqb (k % 2) 1) (zero-div (2 ^ y))
 
 -- a digit of each
-digits-or : (p q : ℕ) → p < 2 → q < 2 → eqb (bitOr p q) 1 ≡ (eqb p 1 || eqb q 1)
-digits-or zero q h k = refl
-digits-or (suc zero) zero h k = refl
-digits-or (suc zero) (suc zero) h k = refl
-digits-or (suc zero) (suc (suc q)) h k = absurd (omega arith)
-digits-or (suc (suc p)) q h k = absurd (omega arith)
-
 digits-xor : (p q : ℕ) → p < 2 → q < 2 → eqb (bitXor p q) 1 ≡ differ (eqb p 1) (eqb q 1)
 digits-xor zero q h k = refl
 digits-xor (suc zero) zero h k = refl
 digits-xor (suc zero) (suc zero) h k = refl
 digits-xor (suc zero) (suc (suc q)) h k = absurd (omega arith)
 digits-xor (suc (suc p)) q h k = absurd (omega arith)
-
-marked-or : (a b y : ℕ) → marked (bitOr a b) y ≡ (marked a y || marked b y)
-marked-or a b y =
-    ap (λ (k : ℕ). eqb (k % 2) 1) (or-shr a b y) ∙ ap (λ (k : ℕ). eqb k 1) (or-mod (a / 2 ^ y) (b / 2 ^ y) 1)
-    ∙ digits-or (a / 2 ^ y % 2) (b / 2 ^ y % 2) (mod-lt (a / 2 ^ y) (omega arith)) (mod-lt (b / 2 ^ y) (omega arith))
 
 marked-xor : (a b y : ℕ) → marked (bitXor a b) y ≡ differ (marked a y) (marked b y)
 marked-xor a b y =
@@ -81,87 +69,6 @@ marked-below x y = go (decLt y x)
 -- the code's 1 << x
 pub one-shifted : (x : ℕ) → x < 64 → 1 * 2 ^ x % 2 ^ 64 ≡ 2 ^ x
 one-shifted x h = shl-exact 1 x 64 (omega arith) (omega arith) ∙ omega arith
-
--- what may come next is below n
-pub free-below : (n w x : ℕ) → isBarred n w x ≡ false → x < n
-free-below n w x e = ltb-true x n (go (ltb x n) (marked w x) e)
-  where
-    go : (s t : Bool) → (not s || t) ≡ false → s ≡ true
-    go true t e = refl
-    go false t e = sym e
-
--- ---- no two are equal: w marks what has come
-
--- nothing of the list is marked
-unmarked : ℕ → List ℕ → Bool
-unmarked w [] = true
-unmarked w (x ∷ l) = not (marked w x) && unmarked w l
-
-unmarked-zero : (l : List ℕ) → unmarked 0 l ≡ true
-unfolding unmarked
-unmarked-zero [] = refl
-unmarked-zero (x ∷ l) = rw (marked-zero x) (unmarked-zero l)
-
-unmarked-more : (w x : ℕ) (l : List ℕ) → unmarked (bitOr w (2 ^ x)) l ≡ (absent x l && unmarked w l)
-unfolding unmarked absent
-unmarked-more w x [] = refl
-unmarked-more w x (y ∷ l) = rw (marked-or w (2 ^ x) y, marked-one x y, unmarked-more w x l) (go (marked w y) (eqb x y) (absent x l) (unmarked w l))
-  where
-    go : (m e a u : Bool) → (not (m || e) && (a && u)) ≡ ((not e && a) && (not m && u))
-    go false false a u = refl
-    go false true a u = refl
-    go true false false u = refl
-    go true false true u = refl
-    go true true a u = refl
-
--- what is left passes the test, and none of it has come
-pub passes : ℕ → ℕ → List ℕ → Bool
-passes n w l = isOrder n l && unmarked w l
-
-passes-start : (n : ℕ) (l : List ℕ) → passes n 0 l ≡ isOrder n l
-unfolding passes
-passes-start n l = rw (unmarked-zero l) (go (isOrder n l))
-  where
-    go : (t : Bool) → (t && true) ≡ t
-    go true = refl
-    go false = refl
-
-passes-end : (n w : ℕ) → passes n w [] ≡ true
-unfolding passes isOrder unmarked
-passes-end n w = refl
-
-passes-turn : (n w x : ℕ) (l : List ℕ) → passes n w (x ∷ l) ≡ (not (isBarred n w x) && passes n (bitOr w (2 ^ x)) l)
-unfolding passes isOrder unmarked
-passes-turn n w x l = rw (unmarked-more w x l) (go (ltb x n) (marked w x) (absent x l) (isOrder n l) (unmarked w l))
-  where
-    go : (s t a o u : Bool) → ((s && (a && o)) && (not t && u)) ≡ (not (not s || t) && (o && (a && u)))
-    go false t a o u = refl
-    go true true false o u = refl
-    go true true true false u = refl
-    go true true true true u = refl
-    go true false false false u = refl
-    go true false false true u = refl
-    go true false true false u = refl
-    go true false true true u = refl
-
--- before entry i, what is left decides
-abbrev pub Passing : ℕ → List ℕ → ℕ → ℕ → Type 0
-Passing n o w i = passes n w (drop i o) ≡ isOrder n o
-
-pub passing : (n : ℕ) (o : List ℕ) → Passing n o 0 0
-passing n o = passes-start n o
-
-pass-at : (n w : ℕ) (o : List ℕ) (i : ℕ) (t : Bool) → i < length o → isBarred n w (getD o i 0) ≡ t → passes n w (drop i o) ≡ (not t && passes n (bitOr w (2 ^ getD o i 0)) (drop (i + 1) o))
-pass-at n w o i t h e = ap (passes n w) (rest-turn o i h) ∙ passes-turn n w (getD o i 0) (drop (i + 1) o) ∙ ap (λ (s : Bool). not s && passes n (bitOr w (2 ^ getD o i 0)) (drop (i + 1) o)) e
-
-pub pass-turn : (n : ℕ) (o : List ℕ) (w i : ℕ) → Passing n o w i → i < length o → isBarred n w (getD o i 0) ≡ false → Passing n o (bitOr w (2 ^ getD o i 0)) (i + 1)
-pass-turn n o w i p h e = sym (pass-at n w o i false h e) ∙ p
-
-pub pass-stop : (n : ℕ) (o : List ℕ) (w i : ℕ) → Passing n o w i → i < length o → isBarred n w (getD o i 0) ≡ true → isOrder n o ≡ false
-pass-stop n o w i p h e = sym p ∙ pass-at n w o i true h e
-
-pub pass-end : (n : ℕ) (o : List ℕ) (w i : ℕ) → Passing n o w i → length o ≤ i → isOrder n o ≡ true
-pass-end n o w i p h = sym p ∙ ap (passes n w) (rest-end o i h) ∙ passes-end n w
 
 -- ---- the parity: w marks those that an odd number of what has come is above
 

@@ -1,6 +1,6 @@
--- How the code tests a lent order in one walk: numbers marked in words, bit x for x; and determinant's refusals in the parts in which it finds them. Definitions only.
+-- How the code tests a lent order in one walk: numbers marked in a word; and determinant's refusals in the parts in which it finds them. Definitions only.
 use Prim.Native.Nat.{ℕ, _+_, _-_, _*_, _/_, _%_, _^_}
-use mathlib.Core.Bool.{Bool, not, cond, _&&_, _||_}
+use mathlib.Core.Bool.{Bool, cond, _&&_}
 use lib.Bits.{bitXor}
 use lib.Dec.{ltb, eqb}
 use Rattle.matrices.specs.Entries.{countRefusal}
@@ -9,10 +9,6 @@ use Rattle.matrices.specs.declared.Marks.{Marks}
 -- x is marked in w
 abbrev pub marked : ℕ → ℕ → Bool
 marked w x = eqb (w / 2 ^ x % 2) 1
-
--- x may not come next: it is not below n, or it has come
-abbrev pub isBarred : ℕ → ℕ → ℕ → Bool
-isBarred n seen x = not (ltb x n) || marked seen x
 
 -- x in a word: bit 32 + x for itself, and a bit for each number below it
 abbrev pub markOf : ℕ → ℕ

@@ -6,7 +6,7 @@ ghost use lib.ListN.{length, replicate};
 ghost use Rattle.matrices.specs.Matrix.{exchange};
 ghost use Rattle.matrices.specs.Lu.{numbers};
 ghost use Rattle.matrices.specs.Order.{isOrder, differ};
-ghost use Rattle.matrices.specs.Walk.{isBarred, marksWith, isFull};
+ghost use Rattle.matrices.specs.Walk.{marksWith, isFull};
 
 // 0, 1, .., one an entry.
 pub fn number(order: &mut [usize])
@@ -40,35 +40,6 @@ pub(crate) fn exchange(order: &mut [usize], p: usize, q: usize)
     order[q] = x;
 }
 
-// x may not come next: it is not below n, or its bit is set in `seen`.
-fn is_barred(n: usize, seen: u64, x: usize) -> bool
-    requires { ⌜ n ≤ 32 ⌝ }
-    ensures { λ r. ⌜ r ≡ isBarred n seen x ⌝ }
-{
-    if x >= n {
-        return true;
-    }
-    (seen >> x) % 2 == 1
-}
-
-// Every number is below n, and no two are equal.
-pub(crate) fn is_order(n: usize, order: &[usize]) -> bool
-    requires { ⌜ n ≤ 32 ⌝ }
-    ensures { λ r. ⌜ r ≡ isOrder n (now (order .entry)) ⌝ }
-{
-    let mut seen = 0u64;
-    let mut i = 0;
-    while i < order.len() {
-        let x = order[i];
-        if is_barred(n, seen, x) {
-            return false;
-        }
-        seen = seen | (1 << x);
-        i += 1;
-    }
-    true
-}
-
 // One or the other, not both.
 pub(crate) fn differs(t: bool, b: bool) -> bool
     ensures { λ r. ⌜ r ≡ differ t b ⌝ }
@@ -94,4 +65,21 @@ pub(crate) fn is_full(n: usize, word: u64) -> bool
     ensures { λ r. ⌜ r ≡ isFull n word ⌝ }
 {
     word >> 32 == (1 << n) - 1
+}
+
+// Every number is below n, and no two are equal.
+pub(crate) fn is_order(n: usize, order: &[usize]) -> bool
+    requires { ⌜ n ≤ 32 ⌝ }
+    requires { ⌜ length (now order) ≡ n ⌝ }
+    ensures { λ r. ⌜ r ≡ isOrder n (now (order .entry)) ⌝ }
+{
+    let mut m = Marks { word: 0, pairs: 0 };
+    for i in 0..n {
+        let x = order[i];
+        if x >= n {
+            return false;
+        }
+        m = mark(m, x);
+    }
+    is_full(n, m.word)
 }

@@ -3,6 +3,7 @@ use super::Marks;
 use super::order;
 ghost use mathlib.Core.Path.{_≡_};
 ghost use Prim.Native.Nat.{ℕ, _≤_};
+ghost use lib.ListN.{length};
 ghost use Rattle.matrices.specs.Entries.{luRefusal, orderRefusal, countRefusal, solveRefusal, inverseRefusal};
 ghost use Rattle.matrices.specs.Walk.{lengthsRefusal, walkedRefusal};
 
@@ -30,6 +31,7 @@ pub fn lu(w: usize, n: usize, a: usize, factors: usize, order: usize) -> u32
 // Of an order as long as it must be.
 fn not_an_order(n: usize, order: &[usize]) -> u32
     requires { ⌜ n ≤ 32 ⌝ }
+    requires { ⌜ length (now order) ≡ n ⌝ }
     ensures { λ r. ⌜ r ≡ orderRefusal n (now (order .entry)) ⌝ }
 {
     if order::is_order(n, order) {

@@ -1,66 +1,45 @@
-use Prim.Native.Nat.{ℕ, _≤_, _-_, _+_}
-use mathlib.Core.Path.{sym, subst, _∙_}
-use denote.Ref.{now}
-use lib.Bits.{bitOr}
+use Prim.Native.Nat.{ℕ, _≤_, _<_, _-_, _+_}
+use mathlib.Core.Path.{_≡_, sym, subst, _∙_}
+use mathlib.Core.Bool.{Bool, false}
+use mathlib.Core.List.{List}
+use native.Mathlib.Omega.{arith}
 use lib.ListN.{length, getD}
 use borrow.Author.Needs.{needs}
-use native.Mathlib.Omega.{arith}
-use Rattle.matrices.proofs.Walk.{one-shifted, free-below, Passing, passing, pass-turn, pass-stop, pass-end}
+use Rattle.matrices.specs.Order.{isOrder}
+use Rattle.matrices.specs.Walk.{marksWith, isFull}
+use Rattle.matrices.specs.declared.Marks.{Marks}
+use Rattle.matrices.proofs.Walk.{Marking, marking, mark-turn, mark-stop, mark-full}
 use Rattle.matrices.proofs.order.is_order.Statement.{statement}
 use Rattle.matrices.proofs.order.is_order.Tie as tie
 
 abbrev Inv-loop : tie.InvT-loop
-Inv-loop n order seen₀ i₀ seen i = (i ≤ length order) × Passing n order seen i
+Inv-loop n o m₀ i₀ m i = Marking n o m i
 
 abbrev μ-loop : tie.MeasureT-loop
-μ-loop n order seen₀ i₀ seen i = length order - i
+μ-loop n o m₀ i₀ m i = n - i
 
-loop-holds : tie.Need-loop-holds Inv-loop μ-loop
-loop-holds c = (omega arith, passing _ _)
+stop : (n : ℕ) (o : List ℕ) (m : Marks) (i : ℕ) → Marking n o m i → i < n → length o ≡ n → n ≤ getD o i 0 → false ≡ isOrder n o
+stop n o m i k h long past = sym (mark-stop n o m i k (omega arith) past)
 
-mul-x : tie.Need-mul-x Inv-loop μ-loop
-mul-x c = search needs
+bit : (n x : ℕ) → n ≤ 32 → (n ≤ x → ⊥) → x < 32
+bit n x small below = omega arith
 
-shared-slice-read-x : tie.Need-shared-slice-read-x Inv-loop μ-loop
-shared-slice-read-x c = search needs
+turn : {n : ℕ} {o : List ℕ} {m : Marks} {i : ℕ} → Marking n o m i → (m′ : Marks) → i < n → n ≤ 32 → length o ≡ n → (n ≤ getD o i 0 → ⊥) → m′ ≡ marksWith m (getD o i 0) → Marking n o m′ (i + 1)
+turn {n} {o} {m} {i} k m′ h small long below em = subst (λ (t : Marks). Marking n o t (i + 1)) (sym em) (mark-turn n o m i k (omega arith) (omega arith) small)
 
-is-barred-requires : tie.Need-is-barred-requires Inv-loop μ-loop
-is-barred-requires c κs = search needs
-
-returns : tie.Need-returns Inv-loop μ-loop
-returns c =
-    let test = c .before .before .before in
-    sym (pass-stop _ _ _ _ (test .before .loop .inv .1) (test .loop-test .taken) (sym (c .before .is-barred .ensures) ∙ c .if1 .taken))
-
-shl-seen : tie.Need-shl-seen Inv-loop μ-loop
-shl-seen c =
-    let at = c .before .before .before .before in
-    let s = at .before .before .args in
-    omega (arith, free-below (s .n) (at .loop .seen) (getD (now (s .order)) (at .loop .i) 0) (sym (c .before .is-barred .ensures) ∙ c .if1 .left))
-
-add-i : tie.Need-add-i Inv-loop μ-loop
-add-i c = search needs
-
-loop-less : tie.Need-loop-less Inv-loop μ-loop
-loop-less c = search needs
-
-loop-again : tie.Need-loop-again Inv-loop μ-loop
-loop-again c =
-    let test = c .before .before .before in
-    let at = test .before in
-    let s = at .before .before .args in
-    let o = now (s .order) in
-    let i = at .loop .i in
-    let x = getD o i 0 in
-    let w = at .loop .seen in
-    let free = sym (c .before .is-barred .ensures) ∙ c .if1 .left in (
-      omega arith,
-      subst (λ (k : ℕ). Passing (s .n) o (bitOr w k) (i + 1)) (sym (one-shifted x (omega (arith, free-below (s .n) w x free)))) (pass-turn (s .n) o w i (at .loop .inv .1) (test .loop-test .taken) free),
-    )
-
-returns-2 : tie.Need-returns-2 Inv-loop μ-loop
-returns-2 c = sym (pass-end _ _ _ _ (c .before .loop .inv .1) (c .loop-test .left))
+full : (n : ℕ) (o : List ℕ) (m : Marks) (i : ℕ) (t : Bool) → Marking n o m i → n ≤ i → length o ≡ n → t ≡ isFull n (m .word) → t ≡ isOrder n o
+full n o m i t k h long e = e ∙ mark-full n o m i k (omega arith) long
 
 pub is-order-spec : {M : Type 1} → statement M
 is-order-spec =
-    tie.close (tie.spec Inv-loop μ-loop loop-holds mul-x shared-slice-read-x is-barred-requires returns shl-seen add-i loop-less loop-again returns-2)
+    tie.close
+    (tie.spec Inv-loop μ-loop
+    (λ c. marking _ _)
+    (λ c. search needs)
+    (λ c. search needs)
+    (λ c. search (needs, stop))
+    (λ c κs. search (needs, bit))
+    (λ c. search needs) (λ c. search needs)
+    (λ c. turn (c .before .before .before .before .loop .inv) _ (search needs) (search needs) (search needs) (search needs) (search needs))
+    (λ c κs. search needs)
+    (λ c. search (needs, full)))
