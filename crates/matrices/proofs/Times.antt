@@ -9,6 +9,7 @@ use lib.Dec.{ltb, eqb}
 use lib.ListN.{length}
 use borrow.Author.Tests.{lt-ltb, le-ltb, ltb-true, eq-eqb, ne-eqb}
 use Rattle.matrices.specs.Order.{absent, isOrder, differ, isOdd}
+use Rattle.matrices.proofs.Permutation.{both}
 
 -- how often x comes
 times : ℕ → List ℕ → ℕ
@@ -24,10 +25,6 @@ oddly x (y ∷ l) = differ (eqb y x) (oddly x l)
 unfoldable pub allBelow : ℕ → List ℕ → Bool
 allBelow n [] = true
 allBelow n (y ∷ l) = ltb y n && allBelow n l
-
-both : (a b : Bool) → (a && b) ≡ true → (a ≡ true) × (b ≡ true)
-both true b e = (refl, e)
-both false b e = (e, ap (λ (t : Bool). cond t true b) e)
 
 odd-times : (x : ℕ) (l : List ℕ) → oddly x l ≡ isOdd (times x l)
 unfolding oddly times isOdd
@@ -164,13 +161,13 @@ once-order n (y ∷ l) h f =
     let rest = once-order n l (p .1) (λ x. let v = f x in omega arith) in
     rw (p .0, never-absent y l never, rest) refl
 
-pub order-below : (n : ℕ) (l : List ℕ) → isOrder n l ≡ true → allBelow n l ≡ true
+pub order-all-below : (n : ℕ) (l : List ℕ) → isOrder n l ≡ true → allBelow n l ≡ true
 unfolding isOrder allBelow
-order-below n [] h = refl
-order-below n (y ∷ l) h =
+order-all-below n [] h = refl
+order-all-below n (y ∷ l) h =
     let p = both (ltb y n) (absent y l && isOrder n l) h in
     let q = both (absent y l) (isOrder n l) (p .1) in
-    rw (p .0, order-below n l (q .1)) refl
+    rw (p .0, order-all-below n l (q .1)) refl
 
 -- what is not below n never comes
 past-never : (n : ℕ) (l : List ℕ) → allBelow n l ≡ true → (x : ℕ) → n ≤ x → times x l ≡ 0

@@ -15,7 +15,7 @@ use Rattle.matrices.specs.Order.{isOrder, differ, oddBelow, parity}
 use Rattle.matrices.specs.Walk.{marked, markOf, marksNone, marksWith, isFull}
 use Rattle.matrices.specs.declared.Marks.{Marks}
 use Rattle.matrices.proofs.Rest.{rest-turn, rest-end, differ-turn, differ-false}
-use Rattle.matrices.proofs.Times.{oddly, allBelow, order-below, order-oddly, oddly-order}
+use Rattle.matrices.proofs.Times.{oddly, allBelow, order-all-below, order-oddly, oddly-order}
 
 -- ---- the marks of a word that is made from others
 
@@ -155,17 +155,17 @@ marked-low w x h =
     let e : 32 ≡ (j + 1) + x = omega arith in
     ap (λ (k : ℕ). eqb (w % 2 ^ k / 2 ^ x % 2) 1) e ∙ ap (λ (k : ℕ). eqb (k % 2) 1) (field w (j + 1) x) ∙ ap (λ (k : ℕ). eqb k 1) (mod-mod-pow (w / 2 ^ x) j 1)
 
-differ-swap : (a b : Bool) → differ a b ≡ differ b a
-differ-swap false false = refl
-differ-swap false true = refl
-differ-swap true false = refl
-differ-swap true true = refl
+differ-commutes : (a b : Bool) → differ a b ≡ differ b a
+differ-commutes false false = refl
+differ-commutes false true = refl
+differ-commutes true false = refl
+differ-commutes true true = refl
 
 -- bit 0 of the pairs
 odd-mark : (w p x : ℕ) → x < 32 → eqb (bitXor p (w / 2 ^ x) % 2) 1 ≡ differ (marked (w % 2 ^ 32) x) (eqb (p % 2) 1)
 odd-mark w p x h =
     ap (λ (k : ℕ). eqb k 1) (xor-mod p (w / 2 ^ x) 1) ∙ digits-xor (p % 2) (w / 2 ^ x % 2) (mod-lt p (omega arith)) (mod-lt (w / 2 ^ x) (omega arith))
-    ∙ differ-swap (eqb (p % 2) 1) (marked w x) ∙ ap (λ (t : Bool). differ t (eqb (p % 2) 1)) (sym (marked-low w x h))
+    ∙ differ-commutes (eqb (p % 2) 1) (marked w x) ∙ ap (λ (t : Bool). differ t (eqb (p % 2) 1)) (sym (marked-low w x h))
 
 differ-three : (a b c : Bool) → differ (differ a b) c ≡ differ a (differ b c)
 differ-three false b c = refl
@@ -199,7 +199,7 @@ mark-turn n o m i k h below small =
 -- an entry that is not below n
 pub mark-stop : (n : ℕ) (o : List ℕ) (m : Marks) (i : ℕ) → Marking n o m i → i < length o → n ≤ getD o i 0 → isOrder n o ≡ false
 unfolding allBelow
-mark-stop n o m i k h past = go (isOrder n o) (order-below n o) (sym (k .bounded) ∙ ap (allBelow n) (rest-turn o i h) ∙ ap (λ (t : Bool). t && allBelow n (drop (i + 1) o)) (le-ltb (getD o i 0) n past))
+mark-stop n o m i k h past = go (isOrder n o) (order-all-below n o) (sym (k .bounded) ∙ ap (allBelow n) (rest-turn o i h) ∙ ap (λ (t : Bool). t && allBelow n (drop (i + 1) o)) (le-ltb (getD o i 0) n past))
   where
     go : (t : Bool) → (t ≡ true → allBelow n o ≡ true) → allBelow n o ≡ false → t ≡ false
     go false f e = refl
