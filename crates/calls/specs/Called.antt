@@ -6,7 +6,7 @@ use mathlib.Core.List.{List, [], _∷_, _++_}
 use lib.Dec.{eqb}
 use lib.ListN.{length, getD}
 use lib.Ieee.{Float, eq, lt, le}
-use lib.IntN.{ℤ}
+use lib.IntN.{ℤ, pos}
 use Rattle.real.specs.Operations as float
 use Rattle.real.specs.Sign.{signOf}
 use Rattle.algebra.specs.Algebra.{Algebra, addFloat, subFloat, magnitude}
@@ -51,6 +51,14 @@ holds IsOne a b = eq a float.one
 -- 1.0 where a test holds, else 0.0
 abbrev pub truth : Bool → Float
 truth holds = cond holds float.one float.zero
+
+-- the function number of an operation on two records
+abbrev pub binaryNumber : Binary → ℕ
+binaryNumber binary.Add = 0x09
+binaryNumber binary.Sub = 0x0a
+binaryNumber binary.Mul = 0x0b
+binaryNumber binary.Div = 0x0c
+binaryNumber binary.AbsSub = 0x17
 
 -- how many floats a call gives, at `width` floats a record
 abbrev pub sizeOf : ℕ → Call → ℕ
@@ -128,6 +136,10 @@ module _ {R : Type 0} (K : Kind R) where
   calledOf function exponent records floats out =
       let call = callOf (K .layout .width) function exponent (length records) floats (length out) in
       leaves (mapOutcome wordsOf (answerOf call (lentRecord records 0) (lentRecord records 1) (lentRecord records 2))) out
+
+  -- what an operation on two records leaves: the call of its number, without floats
+  unfoldable pub operatedOf : Binary → List ℕ → List ℕ → ℕ × List ℕ
+  operatedOf op records out = calledOf (binaryNumber op) (pos 0) records [] out
 
   -- what a sum or a product of a run of flat floats leaves, where out is one record
   abbrev pub joinedLeft : Outcome R → List Float → ℕ × List Float

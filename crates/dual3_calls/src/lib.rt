@@ -18,7 +18,7 @@ ghost use lib.ListN.{length};
 ghost use Rattle.algebra.specs.Outcome.{mapOutcome};
 ghost use Rattle.dual3.specs.Rules.{dual3Layout, outcome};
 ghost use Rattle.calls.specs.Words.{wordsOf};
-ghost use Rattle.calls.specs.Called.{Sized, lentRecord, unaryOf, binaryOf, byFloatOf, operateOf, answerOf, leaves, calledOf, joinedLeft, summedOf, multipliedOf};
+ghost use Rattle.calls.specs.Called.{Sized, lentRecord, unaryOf, binaryOf, byFloatOf, operateOf, answerOf, leaves, calledOf, operatedOf, joinedLeft, summedOf, multipliedOf};
 ghost use Rattle.dual3_calls.specs.Kind.{dual3Kind, dual3Derivatives};
 
 const WIDTH: usize = 4;
@@ -154,6 +154,21 @@ pub fn call(function: u32, exponent: i32, records: &[u64], floats: &[u64], out: 
     let y = record_at(records, 1);
     let z = record_at(records, 2);
     run(call, x, y, z, out)
+}
+
+// An operation on two records, without the table: what `call` leaves for its number and no floats.
+pub fn operator(op: Binary, records: &[u64], out: &mut [u64]) -> u32
+    ensures { λ r. ⌜ (r, now (out .exit)) ≡ operatedOf dual3Kind op (now (records .entry)) (now (out .entry)) ⌝ }
+{
+    if records.len() != 2 * WIDTH {
+        return algebra::WRONG_LENGTH;
+    }
+    if out.len() != WIDTH {
+        return algebra::WRONG_LENGTH;
+    }
+    let x = record_at(records, 0);
+    let y = record_at(records, 1);
+    leave(Dual3Answer::Value(binary(op, x, y)), out)
 }
 
 // A record's parts to out, or its refusal.

@@ -16,6 +16,14 @@ use Rattle.exports.proofs.record.evindrast_sum.Kinds as sum-k
 use Rattle.exports.proofs.record.evindrast_sum.Reads as sum-r
 use Rattle.exports.proofs.record.evindrast_product.Kinds as product-k
 use Rattle.exports.proofs.record.evindrast_product.Reads as product-r
+use Rattle.exports.proofs.operators.evindrast_add.Kinds as add-k
+use Rattle.exports.proofs.operators.evindrast_add.Reads as add-r
+use Rattle.exports.proofs.operators.evindrast_sub.Kinds as sub-k
+use Rattle.exports.proofs.operators.evindrast_sub.Reads as sub-r
+use Rattle.exports.proofs.operators.evindrast_mul.Kinds as mul-k
+use Rattle.exports.proofs.operators.evindrast_mul.Reads as mul-r
+use Rattle.exports.proofs.operators.evindrast_div.Kinds as div-k
+use Rattle.exports.proofs.operators.evindrast_div.Reads as div-r
 use Rattle.exports.proofs.linalg.evindrast_lu.Kinds as lu-k
 use Rattle.exports.proofs.linalg.evindrast_lu.Reads as lu-r
 use Rattle.exports.proofs.linalg.evindrast_solve.Kinds as solve-k
@@ -119,6 +127,34 @@ record-only κs a x y v w h p q =
     let e = p ∙ sym q in (
       first e,
       λ i. atExit (endedOf 3 record-k.ps record-k.r) κs a (v .0, (v .1 .0, (v .1 .1 .0, (v .1 .1 .1 .0, (v .1 .1 .1 .1 .0, (rest e i, tt)))))),
+    )
+
+pub add-only : Only 2 add-k.ps add-k.r add-r.Pre add-r.Post
+add-only κs a x y v w h p q =
+    let e = p ∙ sym q in (
+      first e,
+      λ i. atExit (endedOf 2 add-k.ps add-k.r) κs a (v .0, (v .1 .0, (rest e i, tt))),
+    )
+
+pub sub-only : Only 2 sub-k.ps sub-k.r sub-r.Pre sub-r.Post
+sub-only κs a x y v w h p q =
+    let e = p ∙ sym q in (
+      first e,
+      λ i. atExit (endedOf 2 sub-k.ps sub-k.r) κs a (v .0, (v .1 .0, (rest e i, tt))),
+    )
+
+pub mul-only : Only 2 mul-k.ps mul-k.r mul-r.Pre mul-r.Post
+mul-only κs a x y v w h p q =
+    let e = p ∙ sym q in (
+      first e,
+      λ i. atExit (endedOf 2 mul-k.ps mul-k.r) κs a (v .0, (v .1 .0, (rest e i, tt))),
+    )
+
+pub div-only : Only 2 div-k.ps div-k.r div-r.Pre div-r.Post
+div-only κs a x y v w h p q =
+    let e = p ∙ sym q in (
+      first e,
+      λ i. atExit (endedOf 2 div-k.ps div-k.r) κs a (v .0, (v .1 .0, (rest e i, tt))),
     )
 
 pub sum-only : Only 2 sum-k.ps sum-k.r sum-r.Pre sum-r.Post

@@ -2,5 +2,6 @@
 // buffer overlaps no other. An answer leaves as document 01's number, 0 where the call is done; a call that is refused writes nothing, but for 6 (see `evindrast_lu`).
 mod hyperdual_linalg;
 mod linalg;
+mod operators;
 mod record;
 mod root;

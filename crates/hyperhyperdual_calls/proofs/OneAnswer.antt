@@ -5,6 +5,8 @@ use denote.Triple.Clauses.{atExit}
 use Rattle.real.proofs.Only.{Only}
 use Rattle.hyperhyperdual_calls.proofs.call.Kinds as call-k
 use Rattle.hyperhyperdual_calls.proofs.call.Reads as call-r
+use Rattle.hyperhyperdual_calls.proofs.operator.Kinds as operator-k
+use Rattle.hyperhyperdual_calls.proofs.operator.Reads as operator-r
 use Rattle.hyperhyperdual_calls.proofs.sum.Kinds as sum-k
 use Rattle.hyperhyperdual_calls.proofs.sum.Reads as sum-r
 use Rattle.hyperhyperdual_calls.proofs.product.Kinds as product-k
@@ -14,6 +16,11 @@ pub call-only : Only 3 call-k.ps call-k.r call-r.Pre call-r.Post
 call-only κs a x y v w h p q =
     let e = p ∙ sym q in
     (ap (λ l. l .0) e, λ i. atExit (endedOf 3 call-k.ps call-k.r) κs a (v .0, (v .1 .0, (v .1 .1 .0, (v .1 .1 .1 .0, (ap (λ l. l .1) e i, tt))))))
+
+pub operator-only : Only 2 operator-k.ps operator-k.r operator-r.Pre operator-r.Post
+operator-only κs a x y v w h p q =
+    let e = p ∙ sym q in
+    (ap (λ l. l .0) e, λ i. atExit (endedOf 2 operator-k.ps operator-k.r) κs a (v .0, (v .1 .0, (ap (λ l. l .1) e i, tt))))
 
 pub sum-only : Only 2 sum-k.ps sum-k.r sum-r.Pre sum-r.Post
 sum-only κs a x y v w h p q =

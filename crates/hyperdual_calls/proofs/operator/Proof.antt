@@ -1,0 +1,49 @@
+use mathlib.Core.Path.{sym, _∙_}
+use Rattle.calls.proofs.Operated.{operated, operated-records, operated-out}
+use Rattle.hyperdual_calls.specs.Kind.{hyperDualKind}
+use borrow.Author.Needs.{needs}
+use Rattle.hyperdual_calls.proofs.operator.Statement.{statement}
+use Rattle.hyperdual_calls.proofs.operator.Tie as tie
+
+mul-if1 : tie.Need-mul-if1
+mul-if1 c = search needs
+
+returns : tie.Need-returns
+returns c = sym (operated-records hyperDualKind _ _ _ (c .if1 .taken))
+
+returns-2 : tie.Need-returns-2
+returns-2 c = sym (operated-out hyperDualKind _ _ _ (c .before .if1 .left) (c .if2 .taken))
+
+record-at-requires : tie.Need-record-at-requires
+record-at-requires c κs = search needs
+
+record-at-requires-2 : tie.Need-record-at-requires-2
+record-at-requires-2 c κs = search needs
+
+binary-requires : tie.Need-binary-requires
+binary-requires c κs = search needs
+
+leave-requires : tie.Need-leave-requires
+leave-requires c κs = search needs
+
+same-length : tie.Need-same-length
+same-length c = search needs
+
+returns-3 : tie.Need-returns-3
+returns-3 c =
+    (rw (c .before .before .before .before .binary .ensures, c .before .before .before .before .before .before .record-at .ensures, c .before .before .before .before .before .record-at2 .ensures) at (c .before .before .leave .ensures))
+    ∙ sym (operated hyperDualKind _ _ _ (c .before .before .before .before .before .before .before .before .if1 .left) (c .before .before .before .before .before .before .before .if2 .left))
+
+pub operator-spec : {M : Type 1} → statement M
+operator-spec =
+    tie.close
+    (tie.spec
+    mul-if1
+    returns
+    returns-2
+    record-at-requires
+    record-at-requires-2
+    binary-requires
+    leave-requires
+    same-length
+    returns-3)
