@@ -9,8 +9,8 @@
    - The answer is 0 or the number of a refusal (enum evindrast_number). A call that is refused writes nothing; the one exception is LU's 6. What a buffer
      held before has no effect on a result.
    - Every call ends with an answer, for every input, length and bit pattern. None allocates or keeps anything, and calls may run at the same time.
-   - A NaN counts as positive, whatever its bits. One that evindrast_record or evindrast_sqrt_word gives has the bits 7ff8000000000000; the others' may
-     have any bits of a NaN.
+   - A NaN counts as positive, whatever its bits. One that evindrast_record, an operator or evindrast_sqrt_word gives has the bits 7ff8000000000000; the
+     others' may have any bits of a NaN.
    docs/PROMISES.md names the promise of each function, and the theorems behind it. */
 #ifndef EVINDRAST_H
 #define EVINDRAST_H
@@ -26,7 +26,7 @@ extern "C" {
 enum evindrast_number {
     EVINDRAST_DONE = 0,
     EVINDRAST_TOO_LARGE = 1,          /* n above 32 */
-    EVINDRAST_WRONG_LENGTH = 2,       /* a lent length is not the one wanted; in evindrast_record also an unknown kind or function */
+    EVINDRAST_WRONG_LENGTH = 2,       /* a lent length is not the one wanted, or an unknown kind or function */
     EVINDRAST_EMPTY = 3,              /* Jacobi with n = 0 */
     EVINDRAST_LIMIT_TOO_LARGE = 4,    /* a sweep limit above 1,000 */
     EVINDRAST_EXPONENT_TOO_LARGE = 5, /* a powi exponent outside -1,024..1,024 */
@@ -151,6 +151,14 @@ enum evindrast_function {
    exponent. */
 uint32_t evindrast_record(uint32_t kind, uint32_t function, int32_t exponent, const double *records, size_t records_len, const double *floats,
                           size_t floats_len, double *out, size_t out_len);
+
+/* The operators of two records, sooner than by their numbers: each gives what evindrast_record gives for EVINDRAST_ADD, _SUB, _MUL, _DIV.
+   records: two records, one after the other; out: one record, written where the answer is 0.
+   Answers: 0; 2 where the kind is unknown or a length is another. */
+uint32_t evindrast_add(uint32_t kind, const double *records, size_t records_len, double *out, size_t out_len);
+uint32_t evindrast_sub(uint32_t kind, const double *records, size_t records_len, double *out, size_t out_len);
+uint32_t evindrast_mul(uint32_t kind, const double *records, size_t records_len, double *out, size_t out_len);
+uint32_t evindrast_div(uint32_t kind, const double *records, size_t records_len, double *out, size_t out_len);
 
 /* The sum of a run of records, from zero, left to right; the product, from one. An empty run has a sum and a product.
    run: any number of records; out: one record, written where the answer is 0.

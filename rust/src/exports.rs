@@ -74,6 +74,37 @@ pub fn record(
     }
 }
 
+macro_rules! operators {
+    ($($name:ident $library:ident $about:literal;)*) => {
+        extern "C" {
+            $(fn $library(
+                kind: u32,
+                records: *const f64,
+                records_len: usize,
+                out: *mut f64,
+                out_len: usize,
+            ) -> u32;)*
+        }
+
+        $(
+            #[doc = $about]
+            /// Takes two records, gives one. Answers: 0, 2.
+            #[inline]
+            pub fn $name(kind: u32, records: &[f64], out: &mut [f64]) -> u32 {
+                let (records, records_len) = (records.as_ptr(), records.len());
+                unsafe { $library(kind, records, records_len, out.as_mut_ptr(), out.len()) }
+            }
+        )*
+    };
+}
+
+operators! {
+    add evindrast_add "[`record`] for [`Function::Add`](crate::Function::Add), sooner.";
+    sub evindrast_sub "[`record`] for [`Function::Sub`](crate::Function::Sub), sooner.";
+    mul evindrast_mul "[`record`] for [`Function::Mul`](crate::Function::Mul), sooner.";
+    div evindrast_div "[`record`] for [`Function::Div`](crate::Function::Div), sooner.";
+}
+
 /// The sum of a run of records, from zero, left to right. Answers: 0, 2.
 pub fn sum(kind: u32, run: &[f64], out: &mut [f64]) -> u32 {
     unsafe { evindrast_sum(kind, run.as_ptr(), run.len(), out.as_mut_ptr(), out.len()) }

@@ -6,6 +6,16 @@ use std::cmp::Ordering;
 use std::iter::{Product, Sum};
 use std::ops::{Add, AddAssign, Div, DivAssign, Mul, MulAssign, Neg, Sub, SubAssign};
 
+/// The one record that a function of the library makes of these.
+#[inline]
+fn joined<T: DualNum>(join: impl Fn(u32, &[f64], &mut [f64]) -> u32, records: &[T]) -> T {
+    let mut out = [T::ZERO];
+    let number = join(T::KIND as u32, floats(records), floats_mut(&mut out));
+    assert_eq!(number, 0, "the lengths are those wanted");
+    let [record] = out;
+    record
+}
+
 macro_rules! record {
     (
         $(#[$about:meta])*
@@ -106,7 +116,7 @@ macro_rules! operators {
             type Output = Self;
             #[inline]
             fn $name(self, other: Self) -> Self {
-                answer(Function::$operator, &[self, other], &[])
+                joined(exports::$name, &[self, other])
             }
         }
 
@@ -229,12 +239,7 @@ macro_rules! runs {
         impl $run for $record {
             fn $name<I: Iterator<Item = Self>>(records: I) -> Self {
                 let records: Vec<Self> = records.collect();
-                let mut out = [Self::ZERO];
-                let number =
-                    exports::$name(Self::KIND as u32, floats(&records), floats_mut(&mut out));
-                assert_eq!(number, 0, "the lengths are those wanted");
-                let [record] = out;
-                record
+                joined(exports::$name, &records)
             }
         }
 

@@ -1,7 +1,9 @@
 //! The forms of each operation agree, and the functions are themselves.
 // the references and the comparisons with a NaN are what is tested
 #![allow(clippy::op_ref, clippy::eq_op, clippy::neg_cmp_op_on_partial_ord, clippy::nonminimal_bool)]
-use evindrast::{Dual2_64, Dual3_64, Dual64, DualNum, HyperDual64, HyperHyperDual64};
+use evindrast::{
+    exports, supplied, Dual2_64, Dual3_64, Dual64, DualNum, Function, HyperDual64, HyperHyperDual64,
+};
 use std::cmp::Ordering;
 
 /// All fields, as Debug writes them: floats that differ in a bit are written differently.
@@ -30,7 +32,14 @@ macro_rules! each_record {
 
 mod each {
     use super::*;
-    each_record!(forms_agree, comparisons_read_real_parts, real_parts_are_f64s, runs_are_folds);
+    each_record!(
+        forms_agree,
+        operators_are_their_numbers,
+        other_lengths_are_refused,
+        comparisons_read_real_parts,
+        real_parts_are_f64s,
+        runs_are_folds
+    );
 }
 
 fn assigned<D: DualNum>(mut x: D, assign: impl Fn(&mut D)) -> String {
@@ -68,6 +77,33 @@ fn forms_agree<D: DualNum>(x: D, y: D) {
     assert_eq!((fields(y.abs()), fields(x.abs())), (fields(-y), fields(x)));
     assert_eq!((fields(y.signum()), fields(x.signum())), (fields(-D::one()), fields(D::one())));
     assert_eq!(fields(D::from(0.25)), fields(D::from_re(0.25)));
+}
+
+fn operators_are_their_numbers<D: DualNum>(x: D, y: D) {
+    let by_number = |function| fields(supplied::record(function, &[x, y], 0, &[]).unwrap());
+    assert_eq!(fields(x + y), by_number(Function::Add));
+    assert_eq!(fields(x - y), by_number(Function::Sub));
+    assert_eq!(fields(x * y), by_number(Function::Mul));
+    assert_eq!(fields(x / y), by_number(Function::Div));
+    assert_eq!((x / D::ZERO * D::ZERO).re().to_bits(), 0x7ff8000000000000);
+}
+
+fn other_lengths_are_refused<D: DualNum>(x: D, y: D) {
+    let two = [x.parts(), y.parts()].concat();
+    for operator in [exports::add, exports::sub, exports::mul, exports::div] {
+        for (kind, records, out) in [
+            (D::KIND as u32, two.len() - 1, D::PARTS),
+            (D::KIND as u32, D::PARTS, D::PARTS),
+            (D::KIND as u32, two.len(), D::PARTS - 1),
+            (D::KIND as u32, two.len(), two.len()),
+            (0, two.len(), D::PARTS),
+            (6, two.len(), D::PARTS),
+        ] {
+            let mut out = vec![-7.25; out];
+            assert_eq!(operator(kind, &two[..records], &mut out), 2);
+            assert!(out.iter().all(|x| *x == -7.25), "nothing is written");
+        }
+    }
 }
 
 fn comparisons_read_real_parts<D: DualNum>(x: D, y: D) {

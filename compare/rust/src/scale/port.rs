@@ -118,11 +118,12 @@ fn elementary<D: Port>(function: Function, x: D) -> D {
 }
 
 fn of_two<D: Port>(function: Function, x: D, y: D) -> Vec<u64> {
+    let by_number = || library(function, &[x, y], &[]);
     match function {
-        Function::Add => agreed([x + y, x + &y, assigned(x, |a| *a += y)]),
-        Function::Sub => agreed([x - y, x - &y, assigned(x, |a| *a -= y)]),
-        Function::Mul => agreed([x * y, x * &y, assigned(x, |a| *a *= y)]),
-        Function::Div => agreed([x / y, x / &y, assigned(x, |a| *a /= y)]),
+        Function::Add => agreed([x + y, x + &y, assigned(x, |a| *a += y), by_number()]),
+        Function::Sub => agreed([x - y, x - &y, assigned(x, |a| *a -= y), by_number()]),
+        Function::Mul => agreed([x * y, x * &y, assigned(x, |a| *a *= y), by_number()]),
+        Function::Div => agreed([x / y, x / &y, assigned(x, |a| *a /= y), by_number()]),
         Function::AbsSub => parts(x.abs_sub(&y)),
         Function::Atan2 => parts(x.atan2(y)),
         Function::Powd => parts(x.powd(y)),

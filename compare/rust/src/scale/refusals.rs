@@ -26,6 +26,7 @@ pub fn all(counts: &mut Counts, cases: usize, seed: u64) {
         case(counts, "refusals of Jacobi", DUAL.name, &call, jacobi(&call));
         let call = RecordCall::new(&mut random);
         case(counts, "refusals of records", "all", &call, record(&call));
+        case(counts, "refusals of operators", "all", &call, operator(&call));
         case(counts, "refusals of runs", "all", &call, run(&call));
     }
 }
@@ -277,6 +278,16 @@ fn record(call: &RecordCall) -> Outcome {
         (true, true) => 5,
         (true, false) => 0,
     };
+    Outcome { number, left: is_left(&[&out]), wanted }
+}
+
+/// One of the four operators, whatever function the call names: all take two records and no float.
+fn operator(call: &RecordCall) -> Outcome {
+    let operators = [exports::add, exports::sub, exports::mul, exports::div];
+    let [records, mut out] = [call.records, call.out].map(buffer);
+    let number = operators[call.function as usize % 4](call.kind, &records, &mut out);
+    let two = |parts: usize| records.len() == 2 * parts && out.len() == parts;
+    let wanted = if parts(call.kind).is_some_and(two) { 0 } else { 2 };
     Outcome { number, left: is_left(&[&out]), wanted }
 }
 
