@@ -60,12 +60,13 @@ fn cases<K: Port>(random: &mut Random) -> Vec<Vec<Case<K>>> {
 
 type Timed<K> = fn(&[Case<K>]) -> Times;
 
-fn functions<K: Port>() -> [(&'static str, Timed<K>); 5] {
+fn functions<K: Port>() -> [(&'static str, Timed<K>); 6] {
     [
         ("LU", lu),
         ("LU, Rust's copy counted", lu_with_copy),
         ("solve", solve),
         ("determinant", determinant),
+        ("LU, then determinant", lu_then_determinant),
         ("inverse", inverse),
     ]
 }
@@ -133,6 +134,22 @@ fn determinant<K: Port>(cases: &[Case<K>]) -> Times {
         },
         lend(cases),
         |case| _ = black_box(case.rust_lu.determinant()),
+    )
+}
+
+/// From the matrix to its determinant: a determinant is taken from factors that LU made.
+fn lu_then_determinant<K: Port>(cases: &[Case<K>]) -> Times {
+    let n = cases[0].n;
+    let (mut factors, mut order, mut swaps) = (vec![0.0; cases[0].a.len()], vec![0; n], 0);
+    let mut det = vec![0.0; K::PARTS];
+    in_turn(
+        lend(cases),
+        |case| {
+            black_box(K::lu(n, &case.a, &mut factors, &mut order, &mut swaps));
+            black_box(K::determinant(n, &factors, &order, swaps, &mut det));
+        },
+        |i| black_box(cases[i % cases.len()].rust_a.clone()),
+        |a: Square<K>| _ = black_box(LU::new(a).map(|lu| lu.determinant())),
     )
 }
 
