@@ -28,7 +28,7 @@ use Rattle.matrices.specs.declared.SolveAnswer.{SolveAnswer}
 use Rattle.matrices.specs.declared.SolveAnswer.the-variants as solve
 use Rattle.matrices.proofs.Answers.{LeavesOrder, lu-leaves-order, lu-same, solve-same, inverse-same, determinant-same}
 use Rattle.matrices.proofs.Laws.{Laws}
-use Rattle.matrices.proofs.Permutation.{order-occurs}
+use Rattle.matrices.proofs.Times.{order-occurs}
 
 -- document 01's reading tells the answers apart
 pub lu-one : (x y : LuAnswer) → luOutcome x ≡ luOutcome y → luColumn x ≡ luColumn y → x ≡ y

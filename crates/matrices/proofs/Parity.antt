@@ -20,14 +20,10 @@ use Rattle.matrices.specs.Lu.{Run, going, singular, numbers, bring, pivo
 use Rattle.matrices.specs.Order.{Distinct, Order, differ, oddBelow, parity, isOdd}
 use Rattle.matrices.specs.declared.Pivot.{Pivot}
 use Rattle.matrices.proofs.Lu.{pivot-row, bring-none, bring-stays, bring-moves}
+use Rattle.matrices.proofs.Rest.{differ-swap}
 use Rattle.matrices.proofs.Permutation.{fore, all-at, exchange-order, numbers-order}
 
 -- ---- the parity of such an exchange
-
-differ-swap : (a b c : Bool) → differ a (differ b c) ≡ differ b (differ a c)
-differ-swap false b c = refl
-differ-swap true false c = refl
-differ-swap true true c = refl
 
 differ-not : (a b : Bool) → differ a (not b) ≡ not (differ a b)
 differ-not false b = refl

@@ -1,14 +1,12 @@
--- Permutations of 0..n-1: what exchanges keep, that every number below n occurs, and that the test is true of permutations exactly. Assumes nothing.
+-- Permutations of 0..n-1: what exchanges keep, and that the test is true of permutations exactly. Assumes nothing.
 use Prim.Native.Nat.{ℕ, zero, suc, _+_, _≤_, _<_}
-use mathlib.Core.Path.{_≡_, refl, ap, sym, subst, _∙_}
-use mathlib.Core.Logic.{_⊎_, inl, inr}
-use mathlib.Core.Bool.{Bool, true, false, not, cond, _&&_}
+use mathlib.Core.Path.{_≡_, refl, sym, subst, _∙_}
+use mathlib.Core.Bool.{Bool, true, false, not, _&&_}
 use mathlib.Core.List.{List, [], _∷_}
 use native.Mathlib.Omega.{arith}
-use native.Mathlib.Decide.{ℕ-discrete}
 use lib.ListN.{length, getD, set, length-set}
 use lib.Dec.{ltb, eqb}
-use borrow.Author.Tests.{lt-ltb, ltb-true, eqb-true, eqb-false, ne-eqb}
+use borrow.Author.Tests.{lt-ltb, ltb-true, eqb-false, ne-eqb}
 use Rattle.algebra.specs.Flat.{tabulate}
 use Rattle.algebra.proofs.Flat.{tabulate-length}
 use Rattle.matrices.specs.Matrix.{exchange}
@@ -88,84 +86,6 @@ numbers-distinct (suc d) k = (numbers-above d (suc k) k (omega arith), numbers-d
 
 pub numbers-order : (n : ℕ) → Order n (numbers n)
 numbers-order n = record { size = tabulate-length (λ j. j) n 0; below = numbers-below n 0 n (omega arith); apart = numbers-distinct n 0 }
-
--- ---- every number below n occurs
-
--- the list without v
-without : ℕ → List ℕ → List ℕ
-without v [] = []
-without v (x ∷ l) = cond (eqb v x) (without v l) (x ∷ without v l)
-
-without-all : (P : ℕ → Type 0) (v : ℕ) (l : List ℕ) → All P l → All P (without v l)
-unfolding without
-without-all P v [] a = tt
-without-all P v (x ∷ l) a = go (eqb v x) (without-all P v l (a .1))
-  where
-    go : (t : Bool) → All P (without v l) → All P (cond t (without v l) (x ∷ without v l))
-    go true r = r
-    go false r = (a .0, r)
-
-without-distinct : (v : ℕ) (l : List ℕ) → Distinct l → Distinct (without v l)
-unfolding without
-without-distinct v [] a = tt
-without-distinct v (x ∷ l) a = go (eqb v x) (without-distinct v l (a .1))
-  where
-    go : (t : Bool) → Distinct (without v l) → Distinct (cond t (without v l) (x ∷ without v l))
-    go true r = r
-    go false r = (without-all (λ y. x ≡ y → ⊥) v l (a .0), r)
-
--- what is none of the list's leaves it as it is
-without-none : (v : ℕ) (l : List ℕ) → All (λ y. v ≡ y → ⊥) l → without v l ≡ l
-unfolding without
-without-none v [] a = refl
-without-none v (x ∷ l) a = rw (ne-eqb v x (a .0)) (ap (λ (r : List ℕ). x ∷ r) (without-none v l (a .1)))
-
--- of different numbers at most one is v
-without-length : (v : ℕ) (l : List ℕ) → Distinct l → length l ≤ suc (length (without v l))
-unfolding without
-without-length v [] a = omega arith
-without-length v (x ∷ l) a = go (eqb v x) refl (without-length v l (a .1))
-  where
-    go : (t : Bool) → eqb v x ≡ t → length l ≤ suc (length (without v l)) → suc (length l) ≤ suc (length (cond t (without v l) (x ∷ without v l)))
-    go true e r = rw (without-none v l (rw (eqb-true v x e) (a .0))) (omega arith)
-    go false e r = omega arith
-
--- none of what is left is v
-without-below : (n : ℕ) (l : List ℕ) → All (λ y. y < suc n) l → All (λ y. y < n) (without n l)
-unfolding without
-without-below n [] a = tt
-without-below n (x ∷ l) a = go (eqb n x) refl (without-below n l (a .1))
-  where
-    go : (t : Bool) → eqb n x ≡ t → All (λ y. y < n) (without n l) → All (λ y. y < n) (cond t (without n l) (x ∷ without n l))
-    go true e r = r
-    go false e r = let d = eqb-false n x e in let h = a .0 in (omega arith, r)
-
--- there are no more than n different numbers below n
-too-many : (n : ℕ) (l : List ℕ) → All (λ y. y < n) l → Distinct l → length l ≤ n
-too-many zero [] a d = omega arith
-too-many zero (x ∷ l) a d = absurd (let h = a .0 in omega arith)
-too-many (suc n) l a d =
-    let r = too-many n (without n l) (without-below n l a) (without-distinct n l d) in
-    let s = without-length n l d in
-    omega arith
-
--- where v stands in the list, unless it is none of it
-find : (v : ℕ) (l : List ℕ) → ((k : ℕ) × ((k < length l) × (getD l k 0 ≡ v))) ⊎ All (λ y. v ≡ y → ⊥) l
-find v [] = inr tt
-find v (x ∷ l) = go (ℕ-discrete v x) (find v l)
-  where
-    go : Dec (v ≡ x) → ((k : ℕ) × ((k < length l) × (getD l k 0 ≡ v))) ⊎ All (λ y. v ≡ y → ⊥) l → ((k : ℕ) × ((k < suc (length l)) × (getD (x ∷ l) k 0 ≡ v))) ⊎ All (λ y. v ≡ y → ⊥) (x ∷ l)
-    go (yes e) r = inl (0, (omega arith, sym e))
-    go (no e) (inl (k, (b, f))) = inl (suc k, (omega arith, f))
-    go (no e) (inr a) = inr (e, a)
-
--- each number below n is an entry of a permutation of 0..n-1
-pub order-occurs : (n : ℕ) (p : List ℕ) → Order n p → (v : ℕ) → v < n → (k : ℕ) × ((k < n) × (getD p k 0 ≡ v))
-order-occurs n p o v h = go (find v p)
-  where
-    go : ((k : ℕ) × ((k < length p) × (getD p k 0 ≡ v))) ⊎ All (λ y. v ≡ y → ⊥) p → (k : ℕ) × ((k < n) × (getD p k 0 ≡ v))
-    go (inl (k, (b, e))) = let z = o .size in (k, (omega arith, e))
-    go (inr a) = absurd (let r = too-many n (v ∷ p) (h, o .below) (a, o .apart) in let z = o .size in omega arith)
 
 -- an entry of a permutation is below n
 pub order-below : (n : ℕ) (p : List ℕ) → Order n p → (k : ℕ) → k < n → getD p k 0 < n

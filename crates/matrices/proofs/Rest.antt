@@ -22,3 +22,8 @@ differ-turn true true b = sym (Bool·not-not b)
 pub differ-false : (a : Bool) → differ a false ≡ a
 differ-false false = refl
 differ-false true = refl
+
+pub differ-swap : (a b c : Bool) → differ a (differ b c) ≡ differ b (differ a c)
+differ-swap false b c = refl
+differ-swap true false c = refl
+differ-swap true true c = refl

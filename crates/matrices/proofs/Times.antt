@@ -1,4 +1,4 @@
--- How often a number comes in a list. Of n numbers below n, each comes once, or one of them never does. Assumes nothing.
+-- How often a number comes in a list. Of n numbers below n, each comes once, or one of them never does; in a permutation each does. Assumes nothing.
 use Prim.Native.Nat.{ℕ, zero, suc, _+_, _≤_, _<_}
 use mathlib.Core.Path.{_≡_, refl, ap, sym, _∙_, subst}
 use mathlib.Core.Bool.{Bool, true, false, not, cond, _&&_}
@@ -6,10 +6,10 @@ use mathlib.Core.List.{List, [], _∷_}
 use native.Mathlib.Decide.{decLt, ℕ-discrete}
 use native.Mathlib.Omega.{arith}
 use lib.Dec.{ltb, eqb}
-use lib.ListN.{length}
+use lib.ListN.{length, getD}
 use borrow.Author.Tests.{lt-ltb, le-ltb, ltb-true, eq-eqb, ne-eqb}
-use Rattle.matrices.specs.Order.{absent, isOrder, differ, isOdd}
-use Rattle.matrices.proofs.Permutation.{both}
+use Rattle.matrices.specs.Order.{Order, absent, isOrder, differ, isOdd}
+use Rattle.matrices.proofs.Permutation.{both, order-isOrder}
 
 -- how often x comes
 times : ℕ → List ℕ → ℕ
@@ -207,3 +207,24 @@ module _ (n : ℕ) (l : List ℕ) (below : allBelow n l ≡ true) (long : length
       most : (x : ℕ) → Dec (x < n) → times x l ≤ 1
       most x (yes u) = let e = once-from-least (λ y. times y l) n (λ y v. some (times y l) (sym (odd-times y l) ∙ f y v)) total x u in omega arith
       most x (no u) = let e = past-never n l below x (omega arith) in omega arith
+
+-- where a number that comes stands
+place : (x : ℕ) (l : List ℕ) → 1 ≤ times x l → (k : ℕ) × ((k < length l) × (getD l k 0 ≡ x))
+unfolding times
+place x [] h = absurd (omega arith)
+place x (y ∷ l) h = go (ℕ-discrete y x) (place x l)
+  where
+    go : Dec (y ≡ x) → (1 ≤ times x l → (k : ℕ) × ((k < length l) × (getD l k 0 ≡ x))) → (k : ℕ) × ((k < suc (length l)) × (getD (y ∷ l) k 0 ≡ x))
+    go (yes e) later = (0, (omega arith, e))
+    go (no e) later =
+        let p = later (let z = ap (λ (t : Bool). cond t 1 0 + times x l) (ne-eqb y x e) in omega arith) in
+        let b = p .1 .0 in
+        (suc (p .0), (omega arith, p .1 .1))
+
+-- each number below n is an entry of a permutation of 0..n-1
+pub order-occurs : (n : ℕ) (p : List ℕ) → Order n p → (v : ℕ) → v < n → (k : ℕ) × ((k < n) × (getD p k 0 ≡ v))
+order-occurs n p o v h =
+    let is = order-isOrder n p o in
+    let once = once-from-most (λ x. times x p) n (λ x u. order-once n p is x) (sum-all n p (order-all-below n p is) ∙ o .size) v h in
+    let found = place v p (omega arith) in
+    (found .0, (subst (λ (k : ℕ). found .0 < k) (o .size) (found .1 .0), found .1 .1))

@@ -10,11 +10,11 @@ use lib.Bits.{bitXor, xor-shr, xor-mod}
 use lib.Pow.{pow-pos, pow-mono, pow-lt, pow-add, shl-shr, shl-exact, shr-shr, ones-split, ones-lt, high, low, field, mod-mod-pow}
 use lib.Dec.{ltb, eqb}
 use lib.ListN.{length, getD, drop}
-use borrow.Author.Tests.{lt-ltb, le-ltb, ltb-true, eq-eqb, ne-eqb}
+use borrow.Author.Tests.{lt-ltb, le-ltb, eq-eqb, ne-eqb}
 use Rattle.matrices.specs.Order.{isOrder, differ, oddBelow, parity}
 use Rattle.matrices.specs.Walk.{marked, markOf, marksNone, marksWith, isFull}
 use Rattle.matrices.specs.declared.Marks.{Marks}
-use Rattle.matrices.proofs.Rest.{rest-turn, rest-end, differ-turn, differ-false}
+use Rattle.matrices.proofs.Rest.{rest-turn, rest-end, differ-turn, differ-swap, differ-false}
 use Rattle.matrices.proofs.Times.{oddly, allBelow, order-all-below, order-oddly, oddly-order}
 
 -- ---- the marks of a word that is made from others
@@ -117,13 +117,7 @@ parity-turn w x l odd =
     differ-turn m odd (differ (oddMarked (bitXor w (2 ^ x - 1)) l) (parity l))
     ∙ ap (λ (t : Bool). differ odd (differ m (differ t (parity l)))) (oddMarked-more w x l)
     ∙ ap (λ (t : Bool). differ odd (differ m t)) (differ-turn b c (parity l))
-    ∙ ap (differ odd) (swap m c (differ b (parity l)) ∙ sym (differ-turn m c (differ b (parity l))))
-  where
-    swap : (m c q : Bool) → differ m (differ c q) ≡ differ c (differ m q)
-    swap false false q = refl
-    swap false true q = refl
-    swap true false q = refl
-    swap true true q = refl
+    ∙ ap (differ odd) (differ-swap m c (differ b (parity l)) ∙ sym (differ-turn m c (differ b (parity l))))
 
 -- before entry i, the pairs so far and what is left give the parity
 abbrev pub Pairing : List ℕ → ℕ → Bool → ℕ → Type 0
