@@ -1,7 +1,7 @@
 -- Records in a run of flat floats: what stands at a place, a store of one record, there and back. Once, whatever the width. Assumes nothing.
 use Prim.Native.Nat.{ℕ, zero, suc, _+_, _-_, _*_, _/_, _%_, _≤_, _<_}
 use mathlib.Core.Path.{_≡_, refl, ap, sym, _∙_}
-use mathlib.Core.List.{List, [], _∷_, _++_, map}
+use mathlib.Core.List.{List, [], _∷_, map}
 use native.Mathlib.Nat.{mul-le-mul-right, div-mul-le-self, mul-div-cancel, mod-lt, div-add-mod', div-lt-iff-lt-mul}
 use native.Mathlib.Decide.{decLt, ℕ-discrete}
 use native.Mathlib.Omega.{arith}

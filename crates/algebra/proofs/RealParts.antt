@@ -1,7 +1,7 @@
 -- A map that keeps the operations of a record keeps what is defined of them for every record: sums with a plain float, the magnitude, and the sum
 -- and the product of flat floats. At the map to the real part: slopes never steer these. Assumes nothing.
 use Prim.Native.Nat.{ℕ, _/_, _%_}
-use mathlib.Core.Path.{_≡_, refl, ap, sym, _∙_}
+use mathlib.Core.Path.{_≡_, refl, ap, _∙_}
 use mathlib.Core.Bool.{Bool, true, false, cond}
 use mathlib.Core.List.{List}
 use lib.Dec.{eqb}
@@ -12,7 +12,7 @@ use Rattle.real.specs.Operations as float
 use Rattle.algebra.specs.Algebra.{Algebra, Keeps, zeroOf, oneOf, addFloat, subFloat, magnitude}
 use Rattle.algebra.specs.Loop.{upto}
 use Rattle.algebra.specs.Flat.{Layout, recordAt, recordCount, sumOf, productOf}
-use Rattle.algebra.specs.Outcome.{Outcome, value, refused, mapOutcome}
+use Rattle.algebra.specs.Outcome.{value, refused, mapOutcome}
 use Rattle.algebra.proofs.Loop.{upto-map}
 
 -- a map of what is chosen is the choice of what is mapped

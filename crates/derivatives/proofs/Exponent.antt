@@ -1,7 +1,7 @@
 -- What a test of an i32 says of the whole number: a comparison is of the number that its bits stand for, a match is of the bits. Assumes nothing.
 use mathlib.Core.Path.{_≡_, refl, sym, ap, _∙_, subst}
 use mathlib.Core.Bool.{Bool, true, false, not}
-use Prim.Native.Nat.{ℕ, suc, _≤_, _<_}
+use Prim.Native.Nat.{ℕ, _≤_}
 use native.Mathlib.Omega.{arith}
 use lib.Dec.{T, ltb, eqb, eqb→eq, nltb→le}
 use lib.IntN.{ℤ, pos, negsuc, natAbs}

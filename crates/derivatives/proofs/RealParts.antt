@@ -5,16 +5,14 @@ use mathlib.Core.Bool.{cond}
 use lib.Ieee.{Float, lt, eq}
 use Rattle.real.specs.Operations.{zero}
 use Rattle.real.specs.Sign.{signOf}
-use Rattle.algebra.specs.Algebra.{Algebra, Keeps, zeroOf, oneOf, magnitude}
+use Rattle.algebra.specs.Algebra.{Algebra, Keeps, zeroOf, oneOf}
 use Rattle.algebra.specs.Outcome.{mapOutcome}
 use Rattle.algebra.proofs.RealParts.{cond-map}
-use Rattle.derivatives.specs.declared.Series.{Series}
 use Rattle.derivatives.specs.declared.Function.{Function}
 use Rattle.derivatives.specs.declared.Plan.{Plan}
 use Rattle.derivatives.specs.declared.Plan.the-variants.{Refused, One, Same, Square, Chain, Quotient, SmallJ0, SmallJ1, SmallJ2, BesselJ0, BesselJ1, BesselJ2}
-use Rattle.derivatives.specs.Series.{recipSeries, sqrtSeries, lnSeries, atanSeries}
 use Rattle.derivatives.specs.Plan.{planOf}
-use Rattle.derivatives.specs.Apply.{chainBy, runPlan, applyOf, recipOf, sqrtOf, expOf, lnOf, sinOf, cosOf, atanOf, atan2Of, mulAddOf, powdOf, absSubOf, signumOf}
+use Rattle.derivatives.specs.Apply.{runPlan, applyOf, recipOf, sqrtOf, expOf, lnOf, sinOf, cosOf, atan2Of, mulAddOf, powdOf, absSubOf, signumOf}
 
 module _ {R S : Type 0} {A : Algebra R} {B : Algebra S} {h : R → S} (k : Keeps A B h) where
   pub plan-keeps : (x : R) (p : Plan) → mapOutcome h (runPlan A x p) ≡ runPlan B (h x) p

@@ -1,5 +1,5 @@
 -- No second answer meets the promise of a public function of this crate. Assumes nothing.
-use mathlib.Core.Path.{_≡_, refl, sym, ap, _∙_}
+use mathlib.Core.Path.{_≡_, refl, sym, _∙_}
 use Rattle.real.proofs.Only.{Only}
 use Rattle.dual3.specs.declared.Dual3Answer.{Dual3Answer}
 use Rattle.dual3.specs.declared.Dual3Answer.the-variants.{Value, Refused}

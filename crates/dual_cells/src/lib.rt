@@ -2,7 +2,7 @@
 // Inner: for the crates that hold the entries. Its functions have a `requires`, which those crates show.
 use dual::Dual;
 ghost use mathlib.Core.Path.{_≡_};
-ghost use Prim.Native.Nat.{ℕ, _+_, _*_, _<_, _≤_};
+ghost use Prim.Native.Nat.{_+_, _*_, _<_};
 ghost use lib.ListN.{length, getD, set};
 ghost use Rattle.algebra.specs.Algebra.{zeroOf};
 ghost use Rattle.matrices.specs.Matrix.{Square, cell, store};

@@ -2,8 +2,8 @@
 // The vector's element i is record i * stride + base of x: all of x (1, 0), or a column of a matrix (n, j).
 use dual::Dual;
 ghost use mathlib.Core.Path.{_≡_};
-ghost use Prim.Native.Nat.{ℕ, _+_, _*_, _<_, _≤_};
-ghost use lib.ListN.{length, getD, set};
+ghost use Prim.Native.Nat.{_+_, _*_, _<_, _≤_};
+ghost use lib.ListN.{length, getD};
 ghost use Rattle.algebra.specs.Algebra.{zeroOf};
 ghost use Rattle.algebra.specs.Flat.{decode, tabulate};
 ghost use Rattle.algebra.specs.Loop.{upto};

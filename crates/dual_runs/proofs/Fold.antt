@@ -18,9 +18,9 @@ use base.Logic.{SProp, ent, sep, ex, guard, emp, via, fst∗, snd∗, exI, exE, 
 use base.Fml.{Lft, GName, Share, Fml, ftrue, fat, froom, fdies, flft, fobor}
 use prog.Wp.{Heap, Out, Env, afterSeq, afterBlock, afterTurn, Calls, Loops, Wp, atReturn, WpFn, Tables}
 use ghost.Atoms.{Atoms, sem}
-use contract.Monad.{Fun, fact}
+use contract.Monad.{fact}
 use sound.Loop.{loop-rule}
-use sound.WpLaws.{FmC, fmOf, WpFn-mono}
+use sound.WpLaws.{fmOf, WpFn-mono}
 use types.Kit.{Given, Item, ‵, raw, _⊛_, some, later, ⋆, anyQ, atRet, _$_, _∵_, !, qed, by, move, keep, drop, use1, use2, split, join, pick, rewrite, fsplit, fjoin, suffices, frame, await, done}
 use types.Part.{whole, sub, look-in, agg}
 use types.Run.{look, look-raw, init, store, forget, stop, hop, fld, from, load, lit, float-lit, of-opd, bin, and-then, no-more, land, assigns, assigns-last, stays, leaves-loop, returns, enter, alloc1, alloc0, params1, pass1, pass0, free1, free0, exec}
@@ -32,7 +32,7 @@ use denote.Memory.{shares, pointee}
 use denote.Ref.{RefT, now}
 use denote.Slice.{sliceTy, sliceVal, ShrSlice, Room, slice-vals, shr-slice-tells, shr-slice-copy}
 use denote.Index.{row, place-is, elem-out, elem-back, looks-slice, shuts-slice}
-use denote.Signature.{Signature, plain}
+use denote.Signature.{plain}
 use denote.Builtin.{SliceRefOf}
 use denote.Steps.{nothing, owned, peeks, heard}
 use denote.Struct.Laws as LL

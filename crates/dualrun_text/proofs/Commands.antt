@@ -1,11 +1,10 @@
 -- The two commands, case by case. Assumes nothing.
 use Prim.Native.Nat.{ℕ, zero, suc, _*_, _≤_, _<_}
 use mathlib.Core.Path.{_≡_, refl, sym, ap, _∙_}
-use mathlib.Core.Bool.{Bool, true, false, cond}
+use mathlib.Core.Bool.{true, false}
 use mathlib.Core.List.{List, _∷_, _++_}
 use native.Mathlib.Nat.{mul-le-mul-left, mul-le-mul-right, le-trans}
 use native.Mathlib.Omega.{arith}
-use lib.Dec.{ltb, eqb}
 use lib.ListN.{length, take, replicate}
 use lib.Ieee.{Float}
 use borrow.Author.Tests.{lt-ltb, le-ltb, eq-eqb, ne-eqb}
@@ -21,7 +20,6 @@ use Rattle.jacobi.specs.Answer.{outcome}
 use Rattle.jacobi.specs.declared.JacobiAnswer.{JacobiAnswer}
 use Rattle.jacobi.specs.declared.JacobiAnswer.the-variants as jacobi
 use Rattle.dualrun_text.specs.declared.Request.{Request}
-use Rattle.dualrun_text.specs.declared.Request.the-variants.{Lu, Eig, Unreadable}
 use Rattle.dualrun_text.specs.Request.{requestOf}
 use Rattle.dualrun_text.specs.Body.{isBody, floatsFrom}
 use Rattle.dualrun_text.specs.Lines.{pairLine, recordLines, orderLine}

@@ -10,9 +10,9 @@ use Rattle.dualrun_text.specs.declared.Number.{Number}
 use Rattle.dualrun_text.specs.declared.Number.the-variants.{Is, Not}
 use Rattle.dualrun_text.specs.declared.Scan.{Scan}
 use Rattle.dualrun_text.specs.declared.Request.{Request}
-use Rattle.dualrun_text.specs.declared.Request.the-variants.{Lu, Eig, Unreadable}
+use Rattle.dualrun_text.specs.declared.Request.the-variants.{Unreadable}
 use Rattle.dualrun_text.specs.Digits.{byteAt, startsWith, digitRun, numberAt, scanOf}
-use Rattle.dualrun_text.specs.Request.{numberFrom, after, numberThen, luLine, limitLine, eigLine, luWord, eigWord, requestOf}
+use Rattle.dualrun_text.specs.Request.{numberFrom, after, numberThen, luLine, eigLine, luWord, eigWord, requestOf}
 
 -- ---- one to nine digits
 module _ (text : List ℕ) (p : ℕ) (s : Scan) (scanned : s ≡ scanOf 10 10 text p) where

@@ -1,5 +1,5 @@
 -- No second outcome meets the promise of `run`: one count, and one content of the lent buffer. Assumes nothing.
-use mathlib.Core.Path.{_≡_, ap, sym, _∙_}
+use mathlib.Core.Path.{ap, sym, _∙_}
 use borrow.Fn.Kinds.{endedOf}
 use denote.Triple.Clauses.{atExit}
 use Rattle.real.proofs.Only.{Only}

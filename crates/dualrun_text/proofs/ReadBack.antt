@@ -8,7 +8,7 @@ use native.Mathlib.Omega.{arith}
 use lib.Dec.{T, ltb, eqb, lit<}
 use lib.ListN.{length, getD, take, drop, length-drop}
 use lib.Seq.{take-suc, take-add, take-all, drop-drop, getD-drop}
-use lib.Ieee.{Float, binary64, ofBits, toBits, nanBits, isNan}
+use lib.Ieee.{Float, binary64, toBits}
 use lib.Ieee.Bits.{toBits-ofBits, nanBits-is}
 use borrow.Author.Tests.{ltb-true, ltb-false, lt-ltb, le-ltb, eqb-true, eq-eqb, ne-eqb}
 use Rattle.io.specs.Digits.{glyph, digits}

@@ -1,14 +1,14 @@
 -- The program reads 65,536 bytes and writes at most so many: neither loses anything. Assumes nothing.
 use Prim.Native.Nat.{ℕ, zero, suc, _+_, _*_, _<_, _≤_, _/_}
-use mathlib.Core.Path.{_≡_, refl, sym, ap, _∙_, subst}
+use mathlib.Core.Path.{_≡_, refl, sym, ap, _∙_}
 use mathlib.Core.Bool.{Bool, true, false, cond}
 use mathlib.Core.List.{List, [], _∷_, _++_}
 use native.Mathlib.Omega.{arith}
-use lib.Dec.{ltb, leb, eqb}
-use lib.ListN.{length, take, drop, getD, length-append, length-take, replicate}
+use lib.Dec.{ltb, eqb}
+use lib.ListN.{length, take, drop, getD, length-append, replicate}
 use lib.Seq.{take-all, getD-take, length-take-le, sets-eq}
 use lib.Ieee.{Float, binary64, toBits}
-use borrow.Author.Tests.{ltb-true, ltb-false, le-ltb}
+use borrow.Author.Tests.{ltb-true, ltb-false}
 use Rattle.io.specs.Digits.{digits}
 use Rattle.real.specs.Operations as float
 use Rattle.algebra.specs.Outcome.{Outcome, value, refused}
@@ -17,7 +17,6 @@ use Rattle.matrices.specs.Entries.{LuLeft, luLeft}
 use Rattle.jacobi.specs.Entry.{JacobiLeft, jacobiLeft}
 use Rattle.dualrun_text.specs.declared.Request.{Request}
 use Rattle.dualrun_text.specs.declared.Request.the-variants.{Lu, Eig, Unreadable}
-use Rattle.dualrun_text.specs.Digits.{byteAt}
 use Rattle.dualrun_text.specs.Request.{requestOf}
 use Rattle.dualrun_text.specs.Body.{isBody, floatsFrom}
 use Rattle.dualrun_text.specs.Page.{page, written}

@@ -12,7 +12,7 @@ use borrow.Author.Tests.{eq-eqb, ne-eqb}
 use Rattle.dualrun_text.specs.declared.Scan.{Scan}
 use Rattle.dualrun_text.specs.declared.Word.{Word}
 use Rattle.dualrun_text.specs.declared.Word.the-variants.{Is, Not}
-use Rattle.dualrun_text.specs.Digits.{byteAt, every, digitRun, numberAt, scanOf}
+use Rattle.dualrun_text.specs.Digits.{byteAt, every, numberAt, scanOf}
 use Rattle.dualrun_text.specs.Body.{separatorOf, isWord, wordOf, wordAt, isBody, floatAt, floatsFrom}
 use Rattle.algebra.specs.Flat.{tabulate}
 use Rattle.algebra.proofs.Flat.{tabulate-length, tabulate-at}

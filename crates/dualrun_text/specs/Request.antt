@@ -1,9 +1,8 @@
 -- The first line: `lu N` or `eig N S`, N and S in one to nine decimal digits, single spaces, a newline at its end. Definitions only.
 use Prim.Native.Nat.{ℕ, _+_}
-use mathlib.Core.Bool.{Bool, cond, _&&_}
+use mathlib.Core.Bool.{cond, _&&_}
 use mathlib.Core.List.{List, [], _∷_}
 use lib.Dec.{ltb, eqb}
-use lib.ListN.{take}
 use Rattle.dualrun_text.specs.declared.Number.{Number}
 use Rattle.dualrun_text.specs.declared.Number.the-variants.{Is, Not}
 use Rattle.dualrun_text.specs.declared.Request.{Request}

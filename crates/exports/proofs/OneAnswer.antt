@@ -1,8 +1,5 @@
 -- No second outcome meets the promise of an export: one number, and one content of each lent place and buffer. Assumes nothing.
-use Prim.Native.Nat.{ℕ}
 use mathlib.Core.Path.{_≡_, refl, ap, sym, _∙_}
-use mathlib.Core.List.{List}
-use lib.Ieee.{Float}
 use borrow.Fn.Kinds.{endedOf}
 use denote.Triple.Clauses.{atExit}
 use Rattle.real.proofs.Only.{Only}

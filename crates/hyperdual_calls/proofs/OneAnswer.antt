@@ -1,5 +1,5 @@
 -- No second outcome meets the promise of a public function of this crate: one number, one content of out. Assumes nothing.
-use mathlib.Core.Path.{_≡_, ap, sym, _∙_}
+use mathlib.Core.Path.{ap, sym, _∙_}
 use borrow.Fn.Kinds.{endedOf}
 use denote.Triple.Clauses.{atExit}
 use Rattle.real.proofs.Only.{Only}

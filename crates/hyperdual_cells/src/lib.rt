@@ -1,7 +1,7 @@
 // `HyperDual` records in lent floats: record number p. Inner: for the crate that holds the entries. Its functions have a `requires`, which that crate shows.
 use hyperdual::HyperDual;
 ghost use mathlib.Core.Path.{_≡_};
-ghost use Prim.Native.Nat.{ℕ, _+_, _*_, _<_};
+ghost use Prim.Native.Nat.{_+_, _*_, _<_};
 ghost use lib.ListN.{length, getD, set};
 ghost use Rattle.algebra.specs.Algebra.{zeroOf};
 ghost use Rattle.algebra.specs.Flat.{decode};

@@ -1,12 +1,12 @@
 -- What carries a run of Jacobi over one record to the run over another: a map of records that keeps the operations, and a map of matrices that keeps what
 -- stands on and above the diagonal. Once over the record. Assumes nothing.
 use Prim.Native.Nat.{ℕ, zero, _+_, _-_, _*_}
-use mathlib.Core.Path.{_≡_, refl, ap, sym, _∙_}
+use mathlib.Core.Path.{_≡_, refl, ap, _∙_}
 use mathlib.Core.Bool.{cond}
 use mathlib.Core.List.{List, map}
 use native.Mathlib.Omega.{arith}
 use lib.Dec.{eqb}
-use lib.ListN.{getD, set, replicate, List·getD-map}
+use lib.ListN.{set, replicate}
 use lib.IntN.{pos}
 use lib.Ieee.{Float, binary64, eq, lt, ofInt}
 use Rattle.real.specs.Operations as float

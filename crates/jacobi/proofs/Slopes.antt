@@ -3,16 +3,16 @@
 use Prim.Native.Nat.{ℕ, zero, suc, _+_, _*_, _/_, _≤_, _<_}
 use mathlib.Core.Path.{_≡_, refl, ap, sym, _∙_}
 use mathlib.Core.Bool.{Bool, true, false, cond, _&&_}
-use mathlib.Core.List.{List, map}
+use mathlib.Core.List.{List}
 use native.Mathlib.Omega.{arith}
 use lib.Dec.{ltb, eqb}
 use lib.ListN.{length}
 use lib.Ieee.{Float}
 use borrow.Author.Tests.{ltb-false, eqb-true, eqb-false, eq-eqb, ne-eqb}
 use Rattle.algebra.specs.Algebra.{Algebra, RealParts, reals, zeroOf}
-use Rattle.algebra.specs.Flat.{Layout, Lawful, Agrees, realParts, recordAt, decode, encode}
+use Rattle.algebra.specs.Flat.{Layout, Lawful, Agrees, recordAt, decode}
 use Rattle.algebra.specs.Outcome.{value, refused}
-use Rattle.algebra.proofs.Flat.{decode-encode, decode-size, decode-at, decode-length, record-same, encode-reals}
+use Rattle.algebra.proofs.Flat.{decode-size, decode-at, decode-length, record-same, encode-reals}
 use Rattle.matrices.specs.Matrix.{cell}
 use Rattle.matrices.proofs.Places.{place}
 use Rattle.matrices.proofs.Permutation.{both}

@@ -12,7 +12,7 @@ use Rattle.real.specs.Operations as float
 use Rattle.algebra.specs.Algebra.{Algebra, RealParts, reals}
 use Rattle.algebra.specs.Flat.{Layout, Lawful, Agrees, realParts, decode, encode}
 use Rattle.algebra.specs.Outcome.{value, refused, mapOutcome}
-use Rattle.algebra.proofs.Flat.{decode-reals, decode-encode, encode-decode, encode-reals}
+use Rattle.algebra.proofs.Flat.{decode-reals, encode-decode, encode-reals}
 use Rattle.matrices.specs.Entries.{luRefusal, orderRefusal, swapsRefusal, solveRefusal, inverseRefusal, determinantRefusal, LuLeft, luAnswered, solveAnswered, luFinish, luLeft, solveLeft, inverseLeft, determinantLeft}
 use Rattle.matrices.specs.Determinant.{determinantOf}
 use Rattle.matrices.specs.Inverse.{inverseOf}

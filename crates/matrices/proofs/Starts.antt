@@ -1,8 +1,7 @@
 -- Solve and inverse with their starts written first: each row then starts from what it finds in its place, and the results are the plain definitions'.
 -- A store off the places that a step reads and writes may be done before or after it. Assumes nothing.
 use Prim.Native.Nat.{ℕ, zero, suc, _+_, _-_, _*_, _/_, _%_, _≤_, _<_}
-use mathlib.Core.Path.{_≡_, refl, ap, sym, _∙_}
-use mathlib.Core.Bool.{Bool, cond}
+use mathlib.Core.Path.{_≡_, ap, sym, _∙_}
 use mathlib.Core.List.{List}
 use native.Mathlib.Nat.{mul-le-mul-right, mod-lt, div-add-mod', div-lt-iff-lt-mul}
 use native.Mathlib.Decide.{decLt, ℕ-discrete}
@@ -17,7 +16,7 @@ use Rattle.algebra.specs.Loop.{upto}
 use Rattle.algebra.proofs.Flat.{tabulate-length, tabulate-at}
 use Rattle.algebra.proofs.Loop.{upto-carry, upto-apart, upto-same, upto-reach}
 use Rattle.matrices.specs.Matrix.{cell, store}
-use Rattle.matrices.specs.Solve.{element, assign, less, eliminate, forwardRow, forward, divide, backRow, back, substitute, forwardFrom, substituteFrom, solveOf}
+use Rattle.matrices.specs.Solve.{assign, less, eliminate, forwardRow, forward, divide, backRow, back, substitute, forwardFrom, substituteFrom, solveOf}
 use Rattle.matrices.specs.Inverse.{unit, inverseColumn, inverseOf, units}
 use Rattle.matrices.specs.Order.{Order}
 use Rattle.matrices.proofs.Fill.{Filled, filled-more, filled-all}

@@ -1,7 +1,7 @@
 // The order of the rows: numbered, cleared, exchanged, and the tests that a lent one is put to.
 use super::Marks;
 ghost use mathlib.Core.Path.{_≡_};
-ghost use Prim.Native.Nat.{ℕ, _<_, _≤_};
+ghost use Prim.Native.Nat.{_<_, _≤_};
 ghost use lib.ListN.{length, replicate};
 ghost use Rattle.matrices.specs.Matrix.{exchange};
 ghost use Rattle.matrices.specs.Lu.{numbers};

@@ -2,7 +2,7 @@
 use super::Marks;
 use super::order;
 ghost use mathlib.Core.Path.{_≡_};
-ghost use Prim.Native.Nat.{ℕ, _≤_};
+ghost use Prim.Native.Nat.{_≤_};
 ghost use lib.ListN.{length};
 ghost use Rattle.matrices.specs.Entries.{luRefusal, orderRefusal, countRefusal, solveRefusal, inverseRefusal};
 ghost use Rattle.matrices.specs.Walk.{lengthsRefusal, walkedRefusal};

@@ -3,7 +3,7 @@ use super::Pivot;
 use super::Step;
 use super::order;
 ghost use mathlib.Core.Path.{_≡_};
-ghost use Prim.Native.Nat.{ℕ, _+_, _*_, _<_, _≤_};
+ghost use Prim.Native.Nat.{_+_, _*_, _<_, _≤_};
 ghost use lib.ListN.{length};
 ghost use Rattle.real.specs.Operations as float;
 ghost use Rattle.algebra.specs.Algebra.{reals};

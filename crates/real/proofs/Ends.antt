@@ -1,16 +1,16 @@
 -- `sqrt`: the floats that are answered without a root, and that the others have a pattern from 1 up and below the infinity's. Assumes nothing.
 use mathlib.Core.Path.{_≡_, refl, sym, ap, _∙_, subst}
-use mathlib.Core.Logic.{_⊎_, inl, inr}
-use Prim.Native.Nat.{ℕ, zero, suc, _+_, _-_, _*_, _/_, _%_, _^_, _≤_, _<_}
+use mathlib.Core.Logic.{inl, inr}
+use Prim.Native.Nat.{ℕ, zero, suc, _-_, _*_, _^_, _≤_, _<_}
 use native.Mathlib.Nat.{not-le-of-lt, lt-irrefl, eq-zero-or-pos, mul-pos, mul-one, one-mul, zero-mul, zero-lt-suc, pow-succ'}
 use native.Mathlib.Omega.{arith}
 use mathlib.Core.Bool.{Bool, true, false, not, Bool·beq, _&&_, _||_, true≢false}
 use lib.IntN.{ℤ, pos, negsuc}
-use lib.Dec.{T, leb, ltb, eqb, leb→le, eqb→eq, ltb→lt, lt→ltb, not-T, eqb-refl}
+use lib.Dec.{T, ltb, eqb, eqb→eq, lt→ltb}
 use lib.Pow.{pow-pos}
 use lib.Ieee.{Float, nan, inf, fin, binary64, up, down, fits, ofBits, toBits, isNan, lt, eq, div}
-use lib.Ieee.Fits.{up-pos, down-pos, and-l, and-r, eq→eqb}
-use lib.Ieee.Bits.{is-true, is-false, ofBits-toBits}
+use lib.Ieee.Fits.{up-pos, and-l, eq→eqb}
+use lib.Ieee.Bits.{ofBits-toBits}
 use Rattle.real.specs.Root.{rootOf}
 use Rattle.real.proofs.Patterns.{finite-bits}
 

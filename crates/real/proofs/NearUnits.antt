@@ -1,15 +1,13 @@
 -- The root of n units, by its parts: where n is R * 4 ^ k, and r is the whole number nearest to √R, of as many digits as the format keeps, it is r * 2 ^ k units. Assumes nothing.
 use mathlib.Core.Path.{_≡_, refl, sym, ap, _∙_, subst}
-use mathlib.Core.Logic.{_⊎_, inl, inr}
 use Prim.Native.Nat.{ℕ, zero, suc, _+_, _-_, _*_, _/_, _^_, _≤_, _<_, compare, Ordering, Ordering·lt, Ordering·eq, Ordering·gt}
-use native.Mathlib.Nat.{add-mul, mul-add, mul-assoc, mul-comm, mul-left-comm, mul-mul-mul-comm, mul-le-mul, mul-le-mul-right, mul-pos, mul-lt-mul-of-pos-right, lt-of-not-le, not-le-of-lt, lt-of-lt-of-le, lt-of-le-of-lt, le-trans, le-of-eq, le-of-lt, le-antisymm, le-of-suc-le-suc, lt-irrefl, pow-succ', mul-one, le-div-iff-mul-le, div-lt-iff-lt-mul}
+use native.Mathlib.Nat.{mul-assoc, mul-mul-mul-comm, mul-le-mul-right, mul-pos, mul-lt-mul-of-pos-right, lt-of-not-le, not-le-of-lt, lt-of-lt-of-le, lt-of-le-of-lt, le-trans, le-of-eq, le-of-lt, le-antisymm, le-of-suc-le-suc, lt-irrefl, le-div-iff-mul-le, div-lt-iff-lt-mul}
 use native.Mathlib.Omega.{arith}
 use native.Mathlib.Decide.{decLe}
-use mathlib.Core.Bool.{Bool, true, false, not, cond}
-use lib.Dec.{T, isLe, isEq, leb→le, nleb→lt, eqb→eq, le→leb}
-use lib.Arith.{lt→nleb}
+use mathlib.Core.Bool.{false, not}
+use lib.Dec.{T, isLe, isEq, leb→le, nleb→lt, eqb→eq}
 use lib.Pow.{pow-add, pow-mono, pow-pos}
-use lib.Ieee.{Float, Format, prec, size, nearest, units}
+use lib.Ieee.{Format, prec, size, nearest, units}
 use lib.Ieee.Digits.{size-lt, size-le}
 use lib.Ieee.Fits.{two, two-le-pos}
 use Rattle.real.specs.Root.{wholeRoot, root}

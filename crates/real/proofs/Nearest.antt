@@ -1,22 +1,21 @@
 -- At most one float is nearest to a root; and `rootOf` of a finite float above zero is it. Assumes nothing.
 use mathlib.Core.Path.{_≡_, refl, sym, ap, _∙_, subst}
 use mathlib.Core.Logic.{_⊎_, inl, inr}
-use Prim.Native.Nat.{ℕ, zero, suc, _+_, _-_, _*_, _/_, _%_, _^_, _≤_, _<_, zero-le}
-use native.Mathlib.Nat.{le-trans, le-of-eq, le-of-lt, le-of-suc-le-suc, lt-of-lt-of-le, lt-of-le-of-lt, lt-of-not-le, not-le-of-lt, lt-irrefl, le-antisymm, le-add-left, eq-or-lt-of-le, add-mul, mul-assoc, mul-comm, mul-one, one-mul, mul-right-comm, mul-mul-mul-comm, mul-le-mul, mul-le-mul-right, mul-pos, mul-lt-mul-of-pos-right, lt-of-mul-lt-mul-right, mul-div-cancel, div-one, pow-succ', suc-mul, zero-lt-suc}
+use Prim.Native.Nat.{ℕ, zero, suc, _+_, _-_, _*_, _/_, _%_, _^_, _≤_, _<_}
+use native.Mathlib.Nat.{le-trans, le-of-eq, le-of-lt, le-of-suc-le-suc, lt-of-lt-of-le, lt-of-le-of-lt, lt-of-not-le, not-le-of-lt, lt-irrefl, le-antisymm, eq-or-lt-of-le, add-mul, mul-assoc, mul-one, mul-mul-mul-comm, mul-le-mul, mul-le-mul-right, mul-pos, mul-lt-mul-of-pos-right, lt-of-mul-lt-mul-right, mul-div-cancel, div-one, pow-succ'}
 use native.Mathlib.Omega.{arith}
 use native.Mathlib.Decide.{decLe}
-use mathlib.Core.Bool.{Bool, true, false, _&&_, true≢false}
+use mathlib.Core.Bool.{true, false, _&&_, true≢false}
 use lib.IntN.{ℤ, pos, negsuc}
 use lib.Dec.{T, leb, ltb, eqb, leb→le, ltb→lt}
 use lib.Pow.{pow-add, pow-pos, pow-mono}
-use lib.Ieee.{Float, nan, inf, fin, Format, binary64, prec, emax, low, up, down, size, units, fits, ofBits, toBits}
+use lib.Ieee.{Float, nan, inf, fin, Format, prec, emax, low, up, down, units, fits, ofBits}
 use lib.Ieee.Digits.{back}
 use lib.Ieee.Fits.{down-pos, and-l, and-r, odd-fits, two, two-le-pos}
 use lib.Ieee.Bits.{ofBits-toBits}
 use lib.Ieee.Exact.{HasValue, units-val}
-use Rattle.real.specs.Root.{rootOf, wholeRoot}
-use Rattle.real.specs.Nearest.{count, radicand, IsNearest}
-use Rattle.real.proofs.Squares.{square-lt, square-suc, square-middle, wholeRoot-is}
+use Rattle.real.specs.Nearest.{count, IsNearest}
+use Rattle.real.proofs.Squares.{square-suc, square-middle}
 use Rattle.real.proofs.Patterns.{units-is, toBits-is}
 
 -- ---- one value only

@@ -1,5 +1,5 @@
 -- No second answer meets the promise of a public function of this crate. Assumes nothing.
-use mathlib.Core.Path.{_≡_, refl, sym, _∙_}
+use mathlib.Core.Path.{refl, sym, _∙_}
 use Rattle.real.proofs.Only.{Only}
 use Rattle.real.proofs.sqrt.Kinds as sqrt-k
 use Rattle.real.proofs.sqrt.Reads as sqrt

@@ -1,14 +1,14 @@
 -- From a bit pattern to the number that the root is taken of, and from the root's digits to its bit pattern. Assumes nothing.
 use mathlib.Core.Path.{_≡_, refl, sym, ap, _∙_, subst}
 use Prim.Native.Nat.{ℕ, zero, suc, _+_, _-_, _*_, _/_, _%_, _^_, _≤_, _<_}
-use native.Mathlib.Nat.{le-trans, le-of-eq, le-of-lt, lt-of-lt-of-le, lt-of-le-of-lt, not-le-of-lt, le-of-suc-le-suc, mod-lt, mod-eq-of-lt, mul-assoc, mul-comm, mul-right-comm, mul-one, mul-le-mul-right, mul-lt-mul-of-pos-right, mul-div-cancel, zero-add, add-assoc, zero-mul, mul-pos, div-lt-iff-lt-mul}
+use native.Mathlib.Nat.{le-trans, le-of-eq, le-of-lt, lt-of-lt-of-le, lt-of-le-of-lt, not-le-of-lt, le-of-suc-le-suc, mod-lt, mod-eq-of-lt, mul-assoc, mul-comm, mul-right-comm, mul-one, mul-le-mul-right, mul-lt-mul-of-pos-right, mul-div-cancel, zero-add, zero-mul, mul-pos, div-lt-iff-lt-mul}
 use native.Mathlib.Omega.{arith}
 use mathlib.Core.Bool.{Bool, true, false, not, _&&_, cond, true≢false}
 use lib.IntN.{ℤ, pos}
 use lib.Dec.{T, lit≤, leb, ltb, eqb, leb→le, eqb→eq, ltb→lt, lt→ltb, not-T}
 use lib.Pow.{pow-add, pow-pos, pow-mono, shl-lt}
 use lib.Count.{trailingZeros, leadingZeros, leading-top}
-use lib.Ieee.{Float, nan, inf, fin, Format, binary64, prec, emax, low, up, down, minus, size, odd, units, hid, top, ones, fits, ofFields, ofBits, toBits, nanBits, isNan, lt, eq, div}
+use lib.Ieee.{Float, nan, inf, fin, Format, binary64, prec, emax, low, up, down, minus, size, odd, units, hid, top, fits, ofFields, ofBits, toBits, nanBits, lt, eq}
 use lib.Ieee.Digits.{Equals, odd-val, size-le}
 use lib.Ieee.Fits.{down-pos, odd-fits, kept-lt, and-r, two, two-le-pos}
 use lib.Ieee.Bits.{is-true, is-false, cond-no, ofBits-toBits, nanBits-above}

@@ -1,12 +1,12 @@
 -- `rootOf` of a finite float above zero is the float nearest to its root. Assumes nothing.
 use mathlib.Core.Path.{_≡_, refl, sym, ap, _∙_, subst}
-use mathlib.Core.Logic.{_⊎_, inl, inr}
+use mathlib.Core.Logic.{inl, inr}
 use Prim.Native.Nat.{ℕ, zero, suc, _+_, _-_, _*_, _/_, _%_, _^_, _≤_, _<_}
 use native.Mathlib.Nat.{lt-of-not-le, eq-zero-or-pos, lt-irrefl, mul-pos, zero-mul, zero-lt-suc}
 use native.Mathlib.Omega.{arith}
 use native.Mathlib.Decide.{decLe}
-use mathlib.Core.Bool.{Bool, true, false}
-use lib.IntN.{ℤ, pos, negsuc}
+use mathlib.Core.Bool.{true, false}
+use lib.IntN.{ℤ}
 use lib.Dec.{T, lt→ltb}
 use lib.Ieee.{Float, nan, inf, fin, Format, binary64, up, down, units, fits, ofBits, toBits, lt, eq}
 use lib.Ieee.Fits.{down-pos, up-pos}
@@ -14,7 +14,7 @@ use lib.Ieee.Bits.{is-true, ofBits-toBits}
 use lib.Ieee.Exact.{HasValue}
 use lib.Pow.{pow-add}
 use Rattle.real.specs.Root.{rootOf, wholeRoot}
-use Rattle.real.specs.Nearest.{count, radicand, IsNearest}
+use Rattle.real.specs.Nearest.{radicand, IsNearest}
 use Rattle.real.proofs.Squares.{square-lt, square-suc, wholeRoot-is}
 use Rattle.real.proofs.Rounded.{stays, moves, no-carry}
 use Rattle.real.proofs.Patterns.{Scale, scale-low, scale-high, whole-part, split, the-root, leading, no-overflow, finite-bits}

@@ -3,9 +3,9 @@ use mathlib.Core.Path.{_≡_, refl, sym, ap, _∙_, subst}
 use mathlib.Core.Bool.{Bool, true, false, not, cond}
 use Prim.Native.Nat.{ℕ, zero, suc, _+_, _/_, _%_}
 use lib.Dec.{T, leb, eqb}
-use lib.Ieee.{Float, Format, nan, inf, fin, fits, isNan, odd, ofFields, ofBits, toBits, top, ones, hid, prec, low, ne, eq}
+use lib.Ieee.{Float, Format, nan, inf, fits, isNan, odd, ofFields, ofBits, toBits, top, ones, hid, prec, low, ne}
 use lib.Ieee.Bits.{ofBits-toBits}
-use lib.Ieee.Compare.{differs-from-itself, nan-differs}
+use lib.Ieee.Compare.{differs-from-itself}
 use Rattle.real.specs.Sign.{signOf}
 
 odd-sign : (d : ℕ) (s : Bool) (q k l : ℕ) → signOf (odd d s q k l) ≡ s

@@ -1,14 +1,10 @@
 -- Squares of whole numbers, and the whole root of the definitions: w * w ≤ n < (w + 1) * (w + 1). Assumes nothing.
-use mathlib.Core.Path.{_≡_, refl, sym, ap, _∙_, subst}
-use mathlib.Core.Logic.{_⊎_, inl, inr}
+use mathlib.Core.Path.{_≡_}
 use Prim.Native.Nat.{ℕ, zero, suc, _+_, _-_, _*_, _/_, _^_, _≤_, _<_}
-use native.Mathlib.Nat.{add-mul, mul-add, mul-assoc, mul-comm, mul-left-comm, mul-mul-mul-comm, mul-le-mul, lt-of-not-le, not-le-of-lt, lt-of-lt-of-le, le-trans, le-of-eq, le-of-suc-le-suc, pow-succ', mul-one}
+use native.Mathlib.Nat.{add-mul, mul-add, mul-mul-mul-comm, mul-le-mul, lt-of-not-le, not-le-of-lt, lt-of-lt-of-le, pow-succ'}
 use native.Mathlib.Omega.{arith}
-use native.Mathlib.Decide.{decLe}
-use native.Mathlib.Numerals.{add-one}
 use mathlib.Core.Bool.{Bool, true, false, not, cond}
 use lib.Dec.{T, leb, leb→le, nleb→lt}
-use lib.Pow.{pow-add, pow-mono, pow-pos}
 use lib.Ieee.{size}
 use lib.Ieee.Digits.{size-lt}
 use Rattle.real.specs.Root.{rootIn, wholeRoot}

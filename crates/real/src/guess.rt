@@ -1,5 +1,5 @@
 // A guess at the root, by multiplications alone. Nothing is promised of how near it is: what is made of it is checked in `root`.
-ghost use Prim.Native.Nat.{_^_, _≤_, _<_};
+ghost use Prim.Native.Nat.{_^_, _<_};
 
 // One, in numbers of 32 digits after the point.
 const ONE: u64 = 0x1_0000_0000;

@@ -1,7 +1,6 @@
 // The cases of the matrices' files (oracle/README.md): sizes, floats, orders, factors.
 use super::Place;
 ghost use Prim.Native.Nat.{_*_, _≤_};
-ghost use mathlib.Core.Path.{_≡_};
 
 // Where the reader stands, and whether what was read is what was got.
 pub struct Compared {

@@ -1,12 +1,12 @@
 -- What carries a rotation over one record to the rotation over another: a map of records that keeps the operations, and a map of matrices that keeps what
 -- stands on and above the diagonal. Once over the record. Assumes nothing.
-use Prim.Native.Nat.{ℕ, zero, suc, _+_, _*_, _≤_, _<_}
+use Prim.Native.Nat.{ℕ, zero, _+_, _*_, _≤_, _<_}
 use mathlib.Core.Path.{_≡_, refl, ap, sym, _∙_}
-use mathlib.Core.Bool.{Bool, true, false, cond, _&&_}
-use mathlib.Core.List.{List, [], _∷_, map}
+use mathlib.Core.Bool.{cond, _&&_}
+use mathlib.Core.List.{List, map}
 use native.Mathlib.Omega.{arith}
 use lib.Dec.{ltb}
-use lib.ListN.{getD, set, replicate, List·getD-map}
+use lib.ListN.{getD, set, List·getD-map}
 use lib.Ieee.{Float, eq, le}
 use Rattle.real.specs.Operations as float
 use Rattle.real.specs.Operations.{_⊕_, one, half, ten}

@@ -1,14 +1,13 @@
 -- `dualrun_text::run` meets its contract. Assumes nothing.
-use mathlib.Core.Path.{_≡_, refl, sym, ap, _∙_}
+use mathlib.Core.Path.{sym, ap, _∙_}
 use denote.Ref.{now}
 use native.Mathlib.Omega.{arith}
 use Rattle.dualrun_text.specs.Page.{page, written}
-use Rattle.dualrun_text.specs.Request.{requestOf}
 use Rattle.dualrun_text.proofs.Commands.{output-for}
 use Rattle.dualrun_text.proofs.Page.{counted}
 use Rattle.dualrun_text.proofs.FirstBytes.{startOf, start-small}
 use Rattle.dualrun_text.specs.declared.Request.{Request}
-use Prim.Native.Nat.{_≤_, _<_}
+use Prim.Native.Nat.{_≤_}
 use mathlib.Core.Path.{subst}
 use borrow.Author.Needs.{needs}
 use Rattle.dualrun_text.proofs.run.Statement.{statement}

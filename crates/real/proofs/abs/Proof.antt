@@ -2,7 +2,7 @@ use borrow.Author.Needs.{needs}
 use Rattle.real.proofs.abs.Statement.{statement}
 use Rattle.real.proofs.abs.Tie as tie
 use Rattle.real.proofs.SignBit.{yes, no}
-use Rattle.real.specs.Sign.{signOf, absOf}
+use Rattle.real.specs.Sign.{absOf}
 
 is-negative-requires : tie.Need-is-negative-requires
 is-negative-requires c κs = search needs

@@ -1,5 +1,5 @@
 -- `real::float_of_word` meets its contract. Assumes nothing.
-use mathlib.Core.Path.{_≡_, sym, _∙_}
+use mathlib.Core.Path.{sym}
 use lib.Ieee.{div, ofBits}
 use borrow.Author.Needs.{needs}
 use Rattle.real.proofs.Nan.{above-is-nan, rest-is-not}

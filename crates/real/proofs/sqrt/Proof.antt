@@ -1,7 +1,7 @@
 use borrow.Author.Needs.{needs}
-use mathlib.Core.Path.{_≡_, ap, _∙_, subst, sym}
+use mathlib.Core.Path.{ap, _∙_, subst, sym}
 use lib.Dec.{T}
-use lib.Ieee.{binary64, ofBits, toBits, fits}
+use lib.Ieee.{binary64}
 use lib.Ieee.Bits.{ofBits-toBits}
 use Rattle.real.specs.Root.{rootOf}
 use Rattle.real.proofs.Ends.{Held, above-no-nan, above-bits, above-infinite, zero-root, other-root}

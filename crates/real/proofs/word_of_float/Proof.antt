@@ -1,6 +1,5 @@
 -- `real::word_of_float` meets its contract. Assumes nothing.
 use mathlib.Core.Path.{_≡_, refl, sym, subst}
-use Prim.Native.Nat.{ℕ}
 use lib.Dec.{T}
 use lib.Ieee.{Float, toBits, binary64}
 use lib.Ieee.Compare.{differs-from-itself}

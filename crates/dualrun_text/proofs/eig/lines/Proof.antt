@@ -1,9 +1,8 @@
 -- `dualrun_text::eig::lines` meets its contract. Assumes nothing.
-use Prim.Native.Nat.{ℕ, _+_, _-_, _*_, _^_, _≤_, _<_}
-use mathlib.Core.Path.{_≡_, refl, sym, ap, _∙_}
+use Prim.Native.Nat.{_-_, _*_}
+use mathlib.Core.Path.{ap, _∙_}
 use denote.Ref.{now}
 use native.Mathlib.Omega.{arith}
-use lib.ListN.{length}
 use Rattle.dualrun_text.specs.Page.{page, written}
 use Rattle.dualrun_text.specs.Lines.{pairLine, recordLines}
 use Rattle.dualrun_text.proofs.Page.{three-parts}

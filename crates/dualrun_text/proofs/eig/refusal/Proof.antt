@@ -1,5 +1,5 @@
 -- `dualrun_text::eig::refusal` meets its contract. Assumes nothing.
-use mathlib.Core.Path.{_≡_, refl, sym, ap, _∙_}
+use mathlib.Core.Path.{sym, ap, _∙_}
 use denote.Ref.{now}
 use Rattle.algebra.specs.Outcome.{numberOf}
 use Rattle.jacobi.specs.declared.JacobiAnswer.{JacobiAnswer}

@@ -1,9 +1,8 @@
 -- `dualrun_text::lu::command` meets its contract. Assumes nothing.
-use Prim.Native.Nat.{ℕ, _+_, _-_, _*_, _^_, _≤_, _<_}
-use mathlib.Core.Path.{_≡_, refl, sym, ap, _∙_}
+use Prim.Native.Nat.{_-_, _*_}
+use mathlib.Core.Path.{sym, ap, _∙_}
 use denote.Ref.{now}
 use native.Mathlib.Omega.{arith}
-use lib.ListN.{length, replicate}
 use lib.Seq.{length-take-le}
 use Rattle.real.specs.Operations.{zero}
 use Rattle.dualrun_text.specs.Page.{page, written}

@@ -1,5 +1,5 @@
 -- `dualrun_text::lu::refusal` meets its contract. Assumes nothing.
-use mathlib.Core.Path.{_≡_, refl, sym, ap, _∙_}
+use mathlib.Core.Path.{sym, ap, _∙_}
 use denote.Ref.{now}
 use Rattle.algebra.specs.Outcome.{numberOf}
 use Rattle.matrices.specs.declared.LuAnswer.{LuAnswer}

@@ -1,5 +1,5 @@
 -- `dualrun_text::read::eig_line` meets its contract. Assumes nothing.
-use mathlib.Core.Path.{_≡_, refl, sym, ap, _∙_}
+use mathlib.Core.Path.{sym, _∙_}
 use denote.Ref.{now}
 use native.Mathlib.Omega.{arith}
 use Rattle.dualrun_text.specs.Request.{limitLine}

@@ -1,8 +1,8 @@
 -- `dualrun_text::read::limit_line` meets its contract. Assumes nothing.
-use mathlib.Core.Path.{_≡_, refl, sym, ap, _∙_}
+use mathlib.Core.Path.{sym, _∙_}
 use denote.Ref.{now}
 use native.Mathlib.Omega.{arith}
-use Rattle.dualrun_text.specs.declared.Request.the-variants.{Lu, Eig}
+use Rattle.dualrun_text.specs.declared.Request.the-variants.{Eig}
 use Rattle.dualrun_text.proofs.FirstLine.{then-not, then-other, then-is, number-end}
 use borrow.Author.Needs.{needs}
 use Rattle.dualrun_text.proofs.read.limit_line.Statement.{statement}

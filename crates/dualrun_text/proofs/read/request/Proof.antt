@@ -1,6 +1,5 @@
 -- `dualrun_text::read::request` meets its contract. Assumes nothing.
-use mathlib.Core.Path.{_≡_, refl, sym, ap, _∙_}
-use denote.Ref.{now}
+use mathlib.Core.Path.{sym, _∙_}
 use Rattle.dualrun_text.proofs.FirstLine.{request-lu, request-eig, request-other}
 use borrow.Author.Needs.{needs}
 use Rattle.dualrun_text.proofs.read.request.Statement.{statement}

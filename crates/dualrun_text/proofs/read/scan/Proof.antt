@@ -1,6 +1,6 @@
 -- `dualrun_text::read::scan` meets its contract. Assumes nothing.
-use Prim.Native.Nat.{ℕ, _+_, _-_, _*_, _^_, _≤_, _<_}
-use mathlib.Core.Path.{_≡_, refl, sym, ap, _∙_}
+use Prim.Native.Nat.{_-_}
+use mathlib.Core.Path.{ap, _∙_}
 use denote.Ref.{now}
 use Rattle.dualrun_text.specs.Digits.{digitValue}
 use Rattle.dualrun_text.proofs.Digits.{Scanned, scanned-none, digit-fits, scanned-more, scanned-stops, scanned-full}

@@ -1,6 +1,5 @@
 -- `dualrun_text::read::separator` meets its contract. Assumes nothing.
 use borrow.Author.Tests.{eq-eqb, ne-eqb}
-use borrow.Author.Needs.{needs}
 use Rattle.dualrun_text.proofs.read.separator.Statement.{statement}
 use Rattle.dualrun_text.proofs.read.separator.Tie as tie
 

@@ -1,5 +1,5 @@
 -- `dualrun_text::read::word` meets its contract. Assumes nothing.
-use mathlib.Core.Path.{_≡_, refl, sym, ap, _∙_}
+use mathlib.Core.Path.{ap, _∙_}
 use denote.Ref.{now}
 use Rattle.dualrun_text.specs.declared.Word.the-variants.{Is}
 use Rattle.dualrun_text.proofs.Words.{word-not, word-is, few-digits, other-separator, right-separator, spelled}

@@ -1,11 +1,9 @@
 -- `dualrun_text::write::entry` meets its contract. Assumes nothing.
-use Prim.Native.Nat.{ℕ, _+_, _-_, _*_, _^_, _≤_, _<_}
-use mathlib.Core.Path.{_≡_, refl, sym, ap, _∙_}
-use mathlib.Core.List.{[], _∷_, _++_}
-use mathlib.Core.Bool.{Bool, cond}
+use Prim.Native.Nat.{_-_}
+use mathlib.Core.List.{[], _∷_}
 use denote.Ref.{now}
 use borrow.Author.Tests.{eq-eqb, ne-eqb}
-use Rattle.dualrun_text.specs.Page.{page, written}
+use Rattle.dualrun_text.specs.Page.{page}
 use Rattle.dualrun_text.specs.Lines.{decimalText}
 use Rattle.dualrun_text.proofs.Page.{then}
 use borrow.Author.Needs.{needs}

@@ -1,5 +1,5 @@
 -- `dualrun_text::write::number` meets its contract. Assumes nothing.
-use mathlib.Core.Path.{_≡_, refl, sym, ap, _∙_}
+use mathlib.Core.Path.{ap, _∙_}
 use denote.Ref.{now}
 use Rattle.dualrun_text.specs.Page.{page, written}
 use Rattle.dualrun_text.proofs.Lines.{decimal-is}

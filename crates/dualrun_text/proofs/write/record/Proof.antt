@@ -1,6 +1,5 @@
 -- `dualrun_text::write::record` meets its contract. Assumes nothing.
-use Prim.Native.Nat.{ℕ, _+_, _-_, _*_, _^_, _≤_, _<_}
-use mathlib.Core.Path.{_≡_, refl, sym, ap, _∙_}
+use Prim.Native.Nat.{_-_}
 use mathlib.Core.List.{[], _∷_}
 use denote.Ref.{now}
 use Rattle.dualrun_text.specs.Page.{page}

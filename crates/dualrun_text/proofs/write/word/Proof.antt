@@ -1,6 +1,6 @@
 -- `dualrun_text::write::word` meets its contract. Assumes nothing.
-use Prim.Native.Nat.{ℕ, _+_, _-_, _*_, _^_, _≤_, _<_}
-use mathlib.Core.Path.{_≡_, refl, sym, ap, _∙_}
+use Prim.Native.Nat.{ℕ, _-_}
+use mathlib.Core.Path.{ap, _∙_}
 use denote.Ref.{now}
 use Rattle.io.specs.Digits.{digits}
 use Rattle.dualrun_text.specs.Page.{page, written}

@@ -8,10 +8,6 @@ use Rattle.exports.proofs.NoKind.{no-kind}
 use borrow.Author.Needs.{needs}
 use Rattle.exports.proofs.operators.operator.Statement.{statement}
 use Rattle.exports.proofs.operators.operator.Tie as tie
-use Rattle.dual3_calls.proofs.operator.Reads as operator-reads′
-use Rattle.dual_calls.proofs.operator.Reads as operator-reads′′
-use Rattle.hyperdual_calls.proofs.operator.Reads as operator-reads′′′
-use Rattle.hyperhyperdual_calls.proofs.operator.Reads as operator-reads′′′′
 
 operator-requires : tie.Need-operator-requires
 operator-requires c κs = search needs

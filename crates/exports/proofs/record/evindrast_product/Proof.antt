@@ -6,10 +6,6 @@ use Rattle.exports.proofs.NoKind.{no-kind}
 use borrow.Author.Needs.{needs}
 use Rattle.exports.proofs.record.evindrast_product.Statement.{statement}
 use Rattle.exports.proofs.record.evindrast_product.Tie as tie
-use Rattle.dual3_calls.proofs.product.Reads as product-reads′
-use Rattle.dual_calls.proofs.product.Reads as product-reads′′
-use Rattle.hyperdual_calls.proofs.product.Reads as product-reads′′′
-use Rattle.hyperhyperdual_calls.proofs.product.Reads as product-reads′′′′
 
 product-requires : tie.Need-product-requires
 product-requires c κs = search needs

@@ -8,10 +8,6 @@ use Rattle.exports.proofs.NoKind.{no-kind}
 use borrow.Author.Needs.{needs}
 use Rattle.exports.proofs.record.evindrast_record.Statement.{statement}
 use Rattle.exports.proofs.record.evindrast_record.Tie as tie
-use Rattle.dual3_calls.proofs.call.Reads as call-reads′
-use Rattle.dual_calls.proofs.call.Reads as call-reads′′
-use Rattle.hyperdual_calls.proofs.call.Reads as call-reads′′′
-use Rattle.hyperhyperdual_calls.proofs.call.Reads as call-reads′′′′
 
 call-requires : tie.Need-call-requires
 call-requires c κs = search needs

@@ -6,10 +6,6 @@ use Rattle.exports.proofs.NoKind.{no-kind}
 use borrow.Author.Needs.{needs}
 use Rattle.exports.proofs.record.evindrast_sum.Statement.{statement}
 use Rattle.exports.proofs.record.evindrast_sum.Tie as tie
-use Rattle.dual3_calls.proofs.sum.Reads as sum-reads′
-use Rattle.dual_calls.proofs.sum.Reads as sum-reads′′
-use Rattle.hyperdual_calls.proofs.sum.Reads as sum-reads′′′
-use Rattle.hyperhyperdual_calls.proofs.sum.Reads as sum-reads′′′′
 
 sum-requires : tie.Need-sum-requires
 sum-requires c κs = search needs

@@ -1,5 +1,5 @@
 use Prim.Native.Nat.{ℕ, _-_, _*_, _/_, _%_, _^_, _<_}
-use mathlib.Core.Path.{_≡_, _∙_}
+use mathlib.Core.Path.{_≡_}
 use lib.Bits.{bitXor}
 use lib.Pow.{pow-pos, shl-exact}
 use native.Mathlib.Omega.{arith}

@@ -1,6 +1,6 @@
 use borrow.Author.Needs.{needs}
 use native.Mathlib.Omega.{arith}
-use Rattle.real.proofs.Bounds.{Polynomial, polynomial}
+use Rattle.real.proofs.Bounds.{polynomial}
 use Rattle.real.proofs.guess.inverse_root.Statement.{statement}
 use Rattle.real.proofs.guess.inverse_root.Tie as tie
 

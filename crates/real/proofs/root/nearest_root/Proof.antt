@@ -3,10 +3,6 @@ use native.Mathlib.Omega.{arith}
 use Rattle.real.proofs.Rounded.{nearest-short}
 use Rattle.real.proofs.root.nearest_root.Statement.{statement}
 use Rattle.real.proofs.root.nearest_root.Tie as tie
-use Rattle.real.proofs.root.nearest_root.Reads as reads
-use Rattle.real.proofs.root.nearest_root.Lts as lts
-use Rattle.real.proofs.root.last_step.Reads as last-step-reads
-use Rattle.real.proofs.root.rounded_root.Reads as rounded-root-reads
 
 last-step-requires : tie.Need-last-step-requires
 last-step-requires c κs = search needs

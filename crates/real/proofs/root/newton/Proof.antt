@@ -1,6 +1,5 @@
 -- `real::root::newton` meets its contract. The loop's invariant: a is below the square of s + 1, and s is at most 2 ^ 28. The measure is s. Assumes nothing.
-use mathlib.Core.Path.{_≡_}
-use Prim.Native.Nat.{ℕ, _+_, _*_, _^_, _≤_, _<_}
+use Prim.Native.Nat.{_+_, _*_, _^_, _≤_, _<_}
 use native.Mathlib.Nat.{le-trans, le-of-lt, mul-le-mul, div-le-self}
 use native.Mathlib.Omega.{arith}
 use Rattle.real.proofs.Newton.{newton-above, newton-below, square-pos}

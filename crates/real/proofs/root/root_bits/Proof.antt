@@ -2,12 +2,6 @@ use borrow.Author.Needs.{needs}
 use Rattle.real.proofs.Patterns.{root-pattern}
 use Rattle.real.proofs.root.root_bits.Statement.{statement}
 use Rattle.real.proofs.root.root_bits.Tie as tie
-use Rattle.real.proofs.root.root_bits.Reads as reads
-use Rattle.real.proofs.root.root_bits.Lts as lts
-use Rattle.real.proofs.guess.guess_of.Reads as guess-of-reads
-use Rattle.real.proofs.root.even.Reads as even-reads
-use Rattle.real.proofs.root.nearest_root.Reads as nearest-root-reads
-use Rattle.real.proofs.root.scale.Reads as scale-reads
 
 scale-requires : tie.Need-scale-requires
 scale-requires c κs = search needs

@@ -1,12 +1,9 @@
 use borrow.Author.Needs.{needs}
-use Prim.Native.Nat.{ℕ, _*_, _^_, _<_}
+use Prim.Native.Nat.{_*_, _^_, _<_}
 use native.Mathlib.Omega.{arith}
 use Rattle.real.proofs.Rounded.{moves, stays, no-carry}
 use Rattle.real.proofs.root.rounded_root.Statement.{statement}
 use Rattle.real.proofs.root.rounded_root.Tie as tie
-use Rattle.real.proofs.root.rounded_root.Reads as reads
-use Rattle.real.proofs.root.rounded_root.Lts as lts
-use Rattle.real.proofs.root.whole_root.Reads as whole-root-reads
 
 whole-root-requires : tie.Need-whole-root-requires
 whole-root-requires c κs = search needs

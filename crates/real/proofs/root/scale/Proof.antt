@@ -1,5 +1,5 @@
 use borrow.Author.Needs.{needs}
-use Prim.Native.Nat.{ℕ, _*_, _^_, _%_, _-_, _≤_, _<_}
+use Prim.Native.Nat.{_*_, _^_, _%_, _-_, _≤_, _<_}
 use native.Mathlib.Omega.{arith}
 use lib.Count.{leadingZeros}
 use Rattle.real.proofs.Patterns.{shift, scale-low, scale-high}

@@ -1,5 +1,5 @@
 use borrow.Author.Needs.{needs}
-use Prim.Native.Nat.{ℕ, _*_, _/_, _%_, _-_}
+use Prim.Native.Nat.{_*_, _/_, _%_, _-_}
 use native.Mathlib.Omega.{arith}
 use Rattle.real.proofs.OneDivision.{Halves, halves, fits-root, one-off}
 use Rattle.real.proofs.root.whole_root.Statement.{statement}

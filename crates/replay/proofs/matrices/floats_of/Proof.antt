@@ -1,7 +1,6 @@
 -- `replay::matrices::floats_of` meets its contract: n * n is at most 32 * 32. Assumes nothing.
 use native.Mathlib.Nat.{mul-le-mul}
 use native.Mathlib.Omega.{arith}
-use borrow.Author.Needs.{needs}
 use Rattle.replay.proofs.matrices.floats_of.Statement.{statement}
 use Rattle.replay.proofs.matrices.floats_of.Tie as tie
 
