@@ -26,12 +26,6 @@ module _ {R : Type 0} where
   tabulate-at f (suc d) k zero x h = ap f (omega arith)
   tabulate-at f (suc d) k (suc j) x h = tabulate-at f d (suc k) j x (omega arith) ∙ ap f (omega arith)
 
-  -- a list is the table of any function that gives its elements
-  pub tabulate-of : (l : List R) (f : ℕ → R) (x : R) → ((j : ℕ) → j < length l → getD l j x ≡ f j) → tabulate f (length l) 0 ≡ l
-  tabulate-of l f x h =
-      ext-getD x (tabulate f (length l) 0) l (tabulate-length f (length l) 0)
-      (λ j lt. let b : j < length l = omega (arith, tabulate-length f (length l) 0) in tabulate-at f (length l) 0 j x b ∙ ap f (omega arith) ∙ sym (h j b))
-
 pub tabulate-map : {R S : Type 0} (h : R → S) (f : ℕ → R) (g : ℕ → S) → ((j : ℕ) → h (f j) ≡ g j) → (d k : ℕ) → map h (tabulate f d k) ≡ tabulate g d k
 unfolding tabulate
 tabulate-map h f g e zero k = refl

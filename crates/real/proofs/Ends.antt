@@ -25,10 +25,6 @@ Held x = fits binary64 x ≡ true
 abbrev nought : Float
 nought = ofBits binary64 0
 
-nought-is : nought ≡ fin false 0 (pos 0)
-unfolding ofBits
-nought-is = refl
-
 -- ---- above zero
 pub above-no-nan : (x : Float) → lt nought x ≡ true → T (not (isNan x))
 unfolding lt isNan ofBits
