@@ -24,14 +24,13 @@ pub(crate) fn inverse_root(t: u64) -> u64
     first + second * square / ONE + third * fourth / ONE
 }
 
-// The guess for a = digits * 2^odd, to some 30 digits: one step of Goldschmidt's iteration from `inverse_root`.
+// The guess for a = (2^32 + top) * 2^20 * 2^odd or a little more, to some 30 digits: one step of Goldschmidt's iteration from `inverse_root`.
 // Where odd is 1, the root of 2 and its inverse are factors.
-pub(crate) fn guess_of(digits: u64, odd: u64) -> Guess
-    requires { ⌜ (digits < 2 ^ 53) × (odd < 2) ⌝ }
+pub(crate) fn guess_of(top: u64, odd: u64) -> Guess
+    requires { ⌜ (top < 2 ^ 32) × (odd < 2) ⌝ }
 {
-    let upper = digits / 0x10_0000;
-    let y = inverse_root(upper % ONE);
-    let scaled = upper * (1073741824 + odd * 444758425) / 0x8000_0000;
+    let y = inverse_root(top);
+    let scaled = (ONE + top) * (1073741824 + odd * 444758425) / 0x8000_0000;
     let inverse = y * (2147483648 - odd * 628983398) / 0x8000_0000;
     let root = scaled * y / ONE;
     let step = (0x6000_0000_0000_0000 - root * inverse) / 0x8000_0000;

@@ -167,13 +167,14 @@ pub(crate) fn even(a: u64, e: u64) -> u64
     if e % 2 == 0 { a } else { 2 * a }
 }
 
-// The pattern of the root of a positive finite float, from the float's.
+// The pattern of the root of a positive finite float, from the float's. The guess takes the digits after the leading one from the pattern itself, which is soonest; a subnormal
+// float has them elsewhere, so its guess is not good enough.
 pub(crate) fn root_bits(b: u64) -> u64
     requires { ⌜ (0 < b) × (b < 0x7ff0_0000_0000_0000) ⌝ }
     ensures { λ r. ⌜ T (not (nanBits binary64 r)) × (ofBits binary64 r ≡ sqrtOf (ofBits binary64 b)) ⌝ }
 {
     let s = scale(b);
     let a = even(s.a, s.e);
-    let r = nearest_root(a, guess::guess_of(s.a, s.e % 2));
+    let r = nearest_root(a, guess::guess_of(b / 0x10_0000 % 0x1_0000_0000, s.e % 2));
     (485 + s.e / 2) * HIDDEN + r
 }

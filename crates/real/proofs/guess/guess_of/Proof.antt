@@ -11,7 +11,7 @@ use Rattle.real.proofs.guess.inverse_root.Reads as inverse-root-reads
 -- the products, where inverse_root has answered
 abbrev At : (c : lts.After-inverse-root (inverse-root-reads.Asked, inverse-root-reads.Learnt) reads.Pre reads.Post) → Type 0
 At c =
-    let upper = c .before .args .digits / 1048576 in
+    let upper = 4294967296 + c .before .args .top in
     let m = 1073741824 + c .before .args .odd * 444758425 in
     let y = c .inverse-root .result in
     let n = 2147483648 - c .before .args .odd * 628983398 in
@@ -26,11 +26,14 @@ at c = step-below _ _ _ _ _ (omega arith) (omega arith) (c .inverse-root .ensure
 inverse-root-requires : tie.Need-inverse-root-requires
 inverse-root-requires c κs = search needs
 
+add-scaled : tie.Need-add-scaled
+add-scaled c = search needs
+
 mul-scaled : tie.Need-mul-scaled
 mul-scaled c = search needs
 
-add-scaled : tie.Need-add-scaled
-add-scaled c = search needs
+add-scaled-2 : tie.Need-add-scaled-2
+add-scaled-2 c = search needs
 
 mul-scaled-2 : tie.Need-mul-scaled-2
 mul-scaled-2 c = let f = at c in omega arith
@@ -67,8 +70,9 @@ guess-of-spec =
     tie.close
     (tie.spec
     inverse-root-requires
-    mul-scaled
     add-scaled
+    mul-scaled
+    add-scaled-2
     mul-scaled-2
     mul-inverse
     sub-inverse
