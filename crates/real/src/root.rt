@@ -123,7 +123,7 @@ pub(crate) fn last_step(a: u64, s: u64, y: u64) -> u64
     settled(s, left, (left * y + HALF) / 0x80_0000_0000)
 }
 
-// The same from any guess: where it is not good enough, about 6 times in 1,000, by `rounded_root`, which would do in its place.
+// The same from any guess: where it is not good enough, for about 6 of 1,000 normal floats, by `rounded_root`, which would do in its place.
 pub(crate) fn nearest_root(a: u64, near: guess::Guess) -> u64
     requires { ⌜ (2 ^ 52 ≤ a) × (a + 1 < 2 ^ 54) ⌝ }
     ensures { λ r. ⌜ (r * r < a * 2 ^ 52 + r) × (a * 2 ^ 52 ≤ r * r + r) × (r < 2 ^ 53) ⌝ }
