@@ -6,7 +6,9 @@ use denote.Triple.Table.{entered, cited}
 use Rattle.dual.specs.Rules.{dualMul}
 use Rattle.dual_runs.proofs.Fold.{fold-meets, Step}
 use Rattle.dual.proofs.Dual.mul.Symbol as mul-def
+use Rattle.dual.proofs.Dual.mul.Symbol.{name as #dual·Dual·mul}
 use Rattle.dual.proofs.Dual.mul.Met as mul-thm
+use Rattle.dual_runs.proofs.product.Key.{name as #dual_runs·product}
 use Rattle.dual_runs.proofs.product as f
 use Rattle.dual_runs.proofs.product.Statement as stated
 use Rattle.dual_runs.proofs.product.Code as code

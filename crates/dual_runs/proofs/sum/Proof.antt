@@ -6,7 +6,9 @@ use denote.Triple.Table.{entered, cited}
 use Rattle.dual.specs.Rules.{dualAdd}
 use Rattle.dual_runs.proofs.Fold.{fold-meets, Step}
 use Rattle.dual.proofs.Dual.add.Symbol as add-def
+use Rattle.dual.proofs.Dual.add.Symbol.{name as #dual·Dual·add}
 use Rattle.dual.proofs.Dual.add.Met as add-thm
+use Rattle.dual_runs.proofs.sum.Key.{name as #dual_runs·sum}
 use Rattle.dual_runs.proofs.sum as f
 use Rattle.dual_runs.proofs.sum.Statement as stated
 use Rattle.dual_runs.proofs.sum.Code as code
