@@ -168,7 +168,7 @@ pub(crate) fn even(a: u64, e: u64) -> u64
 }
 
 // The pattern of the root of a positive finite float, from the float's. The guess takes the digits after the leading one from the pattern itself, which is soonest; a subnormal
-// float has them elsewhere, so its guess is not good enough.
+// float has them elsewhere, so its guess is seldom good enough (that of 2^-1074 is).
 pub(crate) fn root_bits(b: u64) -> u64
     requires { ⌜ (0 < b) × (b < 0x7ff0_0000_0000_0000) ⌝ }
     ensures { λ r. ⌜ T (not (nanBits binary64 r)) × (ofBits binary64 r ≡ sqrtOf (ofBits binary64 b)) ⌝ }
