@@ -1,32 +1,47 @@
-/* Evindrast for C: dual numbers with their chain rules, and LU and Jacobi over them. Link target/staticlib/libexports.a, which `rt staticlib
-   exports` proves and writes; the archive is for x86-64.
+/* Evindrast for C: dual numbers with their chain rules, and LU and Jacobi over them. Link libevindrast.a, which bin/library proves and writes for
+   the machine at hand.
 
    How every call works
-   - A record is a few doubles one after the other, the real part first (EVINDRAST_DUAL and so on say which). A matrix is n * n records row by
-     row, a vector n records.
+   - A record is a few doubles one after the other, the real part first (enum evindrast_kind says which). A matrix is n * n records row by row, a
+     vector n records.
    - A buffer is lent as a pointer and a length. A length counts doubles (or size_t's, for an order), never bytes or records. Pointers are not
-     null, also where the length is 0, and a buffer that is written overlaps no other.
-   - The answer is 0 or the number of a refusal (enum evindrast_number). A call that is refused writes nothing; the one exception is LU's 6. What a buffer
-     held before has no effect on a result.
+     null, also where the length is 0, and what a call writes, counts included, overlaps nothing else that it is lent.
+   - The answer is 0 or the number of a refusal (enum evindrast_number). A call that is refused writes nothing, with one exception: LU's 6 leaves its
+     column, and zeros in both outputs. What a buffer held before has no effect on a result.
    - Every call ends with an answer, for every input, length and bit pattern. None allocates or keeps anything, and calls may run at the same time.
    - A NaN counts as positive, whatever its bits. One that evindrast_record, an operator or evindrast_sqrt_word gives has the bits 7ff8000000000000; the
      others' may have any bits of a NaN.
+
+   The floating-point environment
+   The promises are for the environment in which a program starts: results rounded to nearest, ties to even, subnormal numbers kept, exceptions not
+   trapped. It belongs to a thread, and no call looks at it. fesetround changes it, and so does flush-to-zero, which -ffast-math sets at start-up where a
+   program is linked with it; then other results come, without a word: with flush-to-zero the root of 2^-1074 is 2^-1074 and the 1 by 1 matrix (2^-1074, 1)
+   is singular. evindrast_environment tells whether the environment is the one that the promises are for; ask it once on each thread.
+
    docs/PROMISES.md names the promise of each function, and the theorems behind it. */
 #ifndef EVINDRAST_H
 #define EVINDRAST_H
 
 #include <stddef.h>
 #include <stdint.h>
+#include <string.h>
+
+/* The version of this header and of the library beside it. */
+#define EVINDRAST_VERSION "0.2.0"
+#define EVINDRAST_VERSION_MAJOR 0
+#define EVINDRAST_VERSION_MINOR 2
+#define EVINDRAST_VERSION_PATCH 0
 
 #ifdef __cplusplus
 extern "C" {
 #endif
 
-/* The numbers that a call gives back. Where several hold, matrices are checked in the order 1, 3, 2, 4, 7, 8, then the work begins. */
+/* The numbers that a call gives back. Where several hold, the first in the order 1, 3, 2, 4, 7, 8 is given for a matrix, then the work begins; for a
+   record 2 before 5. */
 enum evindrast_number {
     EVINDRAST_DONE = 0,
     EVINDRAST_TOO_LARGE = 1,          /* n above 32 */
-    EVINDRAST_WRONG_LENGTH = 2,       /* a lent length is not the one wanted, or an unknown kind or function */
+    EVINDRAST_WRONG_LENGTH = 2,       /* a lent length is not the one wanted, or no kind or function has this number, or not for this kind */
     EVINDRAST_EMPTY = 3,              /* Jacobi with n = 0 */
     EVINDRAST_LIMIT_TOO_LARGE = 4,    /* a sweep limit above 1,000 */
     EVINDRAST_EXPONENT_TOO_LARGE = 5, /* a powi exponent outside -1,024..1,024 */
@@ -214,6 +229,33 @@ uint32_t evindrast_hyperdual_inverse(size_t n, const double *factors, size_t fac
    Answers: 0, 1, 2, 3, 4. */
 uint32_t evindrast_jacobi_eigenvalue(size_t n, const double *a, size_t a_len, size_t limit, double *values, size_t values_len, double *vectors,
                                      size_t vectors_len, size_t *sweeps);
+
+/* What evindrast_environment tells. */
+#define EVINDRAST_ENVIRONMENT_ROUNDING 1   /* results are not rounded to nearest, ties to even */
+#define EVINDRAST_ENVIRONMENT_SUBNORMALS 2 /* subnormal results or operands are taken as zero */
+
+/* Whether the calling thread has the floating-point environment that the promises are for: 0, or the sum of what is otherwise. It does not see whether
+   exceptions are trapped. It is C and no proved function: the proofs know one environment, in which a function without inputs has one answer, and the
+   compiler would put that in its place. So it looks at what the library's own additions and subtractions give, bit for bit. */
+static inline int evindrast_environment(void) {
+    /* 1 + 2^-53 and (1 + 2^-52) + 2^-53 lie halfway between two doubles: to nearest even the first goes down and the second up */
+    static const uint64_t halfway[4] = {0x3ff0000000000000, 0x3ff0000000000001, 0x3ca0000000000000, 0x3ca0000000000000};
+    static const uint64_t to_even[2] = {0x3ff0000000000000, 0x3ff0000000000002};
+    /* 1.5 * 2^-1022 - 2^-1022 has a subnormal result, 2^-1022 - (-2^-1074) a subnormal operand */
+    static const uint64_t smallest[4] = {0x0018000000000000, 0x0010000000000000, 0x0010000000000000, 0x8000000000000001};
+    static const uint64_t kept[2] = {0x0008000000000000, 0x0010000000000001};
+    double records[4], out[2] = {0, 0};
+    int told = 0;
+    memcpy(records, halfway, sizeof records);
+    evindrast_add(EVINDRAST_DUAL, records, 4, out, 2);
+    if (memcmp(out, to_even, sizeof out) != 0)
+        told |= EVINDRAST_ENVIRONMENT_ROUNDING;
+    memcpy(records, smallest, sizeof records);
+    evindrast_sub(EVINDRAST_DUAL, records, 4, out, 2);
+    if (memcmp(out, kept, sizeof out) != 0)
+        told |= EVINDRAST_ENVIRONMENT_SUBNORMALS;
+    return told;
+}
 
 #ifdef __cplusplus
 }

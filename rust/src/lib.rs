@@ -50,6 +50,7 @@
 #![warn(missing_docs)]
 
 mod dual_num;
+mod environment;
 pub mod exports;
 mod function;
 mod layout;
@@ -60,8 +61,9 @@ mod refusal;
 pub mod supplied;
 
 pub use dual_num::DualNum;
+pub use environment::{environment, Environment};
 pub use function::{Function, Kind};
 pub use linalg::{jacobi_eigenvalue, Eigen, Entry, LU};
-pub use matrix::Matrix;
+pub use matrix::{Matrix, MAX_N};
 pub use records::{Dual2_64, Dual3_64, Dual64, HyperDual64, HyperHyperDual64};
 pub use refusal::Refusal;
