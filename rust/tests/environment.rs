@@ -1,6 +1,8 @@
 //! The check of the floating-point environment, in the environments that the machine has, and what
 //! it warns of: results that are wrong in the others.
 #![cfg(any(target_arch = "x86_64", target_arch = "aarch64"))]
+mod c;
+
 use evindrast::{environment, exports, Environment, Kind};
 
 #[test]
@@ -59,6 +61,24 @@ fn it_warns_of_wrong_results() {
         assert_eq!(under(other, product) == 0, other.results, "{other:x?}");
         assert_eq!(under(other, quotients) != right, other.rounding, "{other:x?}");
     }
+}
+
+/// The same through the header, where `-ffast-math` has subnormal numbers counted as zero from the
+/// start, and where it does not.
+#[test]
+fn the_header_tells_it_too() {
+    let strict = [&c::FLAGS[..], &["-Werror"]].concat();
+    let told = |name, flags: &[&str]| {
+        let ran = c::run(name, include_str!("environment.c"), &[&strict, flags].concat());
+        assert!(ran.good, "{}", ran.err);
+        ran.out
+    };
+    let right = "1e60000000000000 0\n";
+    let lines = |told: [u32; 5], beside| told.map(|told| format!("{told} {beside}")).concat();
+    assert_eq!(told("environment", &[]), lines([0, 1, 1, 1, 0], right));
+    assert_eq!(told("environment_debug", &["-O0"]), lines([0, 1, 1, 1, 0], right));
+    let fast = told("environment_fast", &["-ffast-math"]);
+    assert_eq!(fast, lines([2, 3, 3, 3, 2], "1 6\n"));
 }
 
 /// What is done in another environment. It does no arithmetic on floats but by the library.
