@@ -1,4 +1,5 @@
-/* A 2 by 2 system over Dual, and one function of its solution, through the header alone. Build and run it with `examples/c solve`. */
+/* A 2 by 2 system over Dual, and one function of its solution, through the header alone. Build and run it with
+   `examples/c solve`. */
 #include "evindrast.h"
 #include <math.h>
 #include <stdio.h>

@@ -17,6 +17,7 @@ fn untouched(floats: &[f64]) -> bool {
 }
 
 /// The functions of matrices of one record of so many floats.
+#[allow(clippy::type_complexity)]
 struct Matrices<const W: usize> {
     lu: fn(usize, &[f64], &mut [f64], &mut [usize], &mut usize) -> u32,
     solve: fn(usize, &[f64], &[usize], &[f64], &mut [f64]) -> u32,

@@ -137,7 +137,7 @@ fn functions<D: DualNum + UnwindSafe>(random: &mut Random) {
     let exponent = random.choose(&[exponent, exponent % 2000, i32::MIN, i32::MAX, 1024, -1025]);
     let fits = (-1024..=1024).contains(&exponent);
     let words = "refused 5: powi's exponent is outside -1,024..1,024".to_string();
-    assert_eq!(panics(|| D::from_re(1.5).powi(exponent)), (!fits).then(|| words));
+    assert_eq!(panics(|| D::from_re(1.5).powi(exponent)), (!fits).then_some(words));
     assert_eq!(number(D::from_re(1.5).try_powi(exponent)), if fits { 0 } else { 5 });
 }
 
@@ -149,7 +149,7 @@ impl<D: DualNum> Iterator for Liar<D> {
 
     fn next(&mut self) -> Option<D> {
         self.1 += 1;
-        (self.1 != 4).then(|| self.0)
+        (self.1 != 4).then_some(self.0)
     }
 
     fn size_hint(&self) -> (usize, Option<usize>) {
