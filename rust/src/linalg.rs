@@ -177,7 +177,8 @@ pub struct Eigen<T> {
     pub values: Vec<T>,
     /// The eigenvectors, a column each.
     pub vectors: Matrix<T>,
-    /// How many sweeps did not stop at a zero threshold.
+    /// How many sweeps did not stop at a zero threshold; where it is the limit, more sweeps might
+    /// change the rest.
     pub sweeps: usize,
 }
 

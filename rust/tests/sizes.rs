@@ -149,7 +149,7 @@ impl<D: DualNum> Iterator for Liar<D> {
 
     fn next(&mut self) -> Option<D> {
         self.1 += 1;
-        (self.1 != 4).then_some(self.0)
+        (self.1 != 4 && self.1 < 10).then_some(self.0)
     }
 
     fn size_hint(&self) -> (usize, Option<usize>) {
