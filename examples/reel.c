@@ -1,7 +1,7 @@
 /* A reel of a reconstructed cut: is its last subtitle firm?
 
    The cues are counted in frames of the old print. Up to a splice it ran at 24 frames a second, after it at a rate that
-   is known to a hundredth alone. The same lines were heard on the new print and timed by a clock. A rate and an offset
+   is known only to a hundredth. The same lines were heard on the new print and timed by a clock. A rate and an offset
    between the two are fitted by least squares, a 2 by 2 solve over `Dual`: beside each number stands its slope in the
    rate after the splice. That rate moves every later cue, and with the cues both sides of the system; the solve carries
    it to the last subtitle. Build and run it with examples/reel. */
@@ -52,16 +52,16 @@ static int refused(const char *why) {
 int main(void) {
     if (evindrast_environment() != 0)
         return refused("the floating-point environment is not the one that results are promised for");
-    double a[8] = {0}, b[4] = {0}, factors[8], x[4], cue = -1, heard = 0; /* the last two: of the line before */
+    double a[8] = {0}, b[4] = {0}, factors[8], x[4], shown = -1, heard = 0; /* the last two: of the line before */
     for (size_t i = 0; i < LINES; i++) {
-        /* a second that was left out is 0, and not later than the one before; nothing is later than a NaN */
-        if (!(lines[i].cue > cue && lines[i].heard > heard && isfinite(lines[i].cue + lines[i].heard))) {
+        dual time = seconds(lines[i].cue);
+        /* a second that was left out is 0, and no later than the one before; neither is a NaN */
+        if (!(time.re > shown && lines[i].heard > heard && isfinite(time.re + lines[i].heard))) {
             fprintf(stderr, "line %zu has %g and %g: wanted are a cue and the second at which it is heard, ", i + 1,
                     lines[i].cue, lines[i].heard);
             return refused("both later than in the line before");
         }
-        cue = lines[i].cue, heard = lines[i].heard;
-        dual time = seconds(cue);
+        shown = time.re, heard = lines[i].heard;
         add_to(&a[0], of(evindrast_mul, time, time));
         add_to(&a[2], time), add_to(&a[4], time);
         add_to(&a[6], (dual){1, 0});

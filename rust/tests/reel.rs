@@ -143,6 +143,15 @@ fn a_table_that_cannot_be_fitted_is_refused_in_words() {
     refused(edited("large", large), "the fit gives no finite numbers");
 }
 
+#[test]
+fn a_rate_that_is_none_is_refused_in_words() {
+    let rates = [("stands", "0", "line 4"), ("nan", "NAN", "line 4"), ("back", "-18", "line 5")];
+    for (name, rate, line) in rates {
+        let source = SOURCE.replace("after = 18,", &format!("after = {rate},"));
+        refused(c::run(&format!("reel_rate_{name}"), &source, &c::FLAGS), line);
+    }
+}
+
 /// The program's model through the crate; `carried` says whether the matrix has its slopes.
 fn by_dual_numbers(carried: bool) -> Dual64 {
     let time = |frames: f64| {
