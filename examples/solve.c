@@ -1,4 +1,5 @@
-/* A 2 by 2 system over Dual, and one function of its solution, through the header alone. Build and run it with `examples/c solve`. */
+/* A 2 by 2 system over Dual, and one function of its solution, through the header alone. Build and run it with
+   `examples/c solve`. */
 #include "evindrast.h"
 #include <math.h>
 #include <stdio.h>
@@ -8,6 +9,10 @@ static const double a[8] = {2, 0, 1, 0, 1, 0, 4, 0};
 static const double b[4] = {4, 2, 9, 1};
 
 int main(void) {
+    if (evindrast_environment() != 0) {
+        printf("the floating-point environment is not the one that results are promised for\n");
+        return 1;
+    }
     double factors[8], x[4], det[2];
     size_t order[2], beside;
     uint32_t number = evindrast_lu(2, a, 8, factors, 8, order, 2, &beside);

@@ -1,32 +1,52 @@
-/* Evindrast for C: dual numbers with their chain rules, and LU and Jacobi over them. Link target/staticlib/libexports.a, which `rt staticlib
-   exports` proves and writes; the archive is for x86-64.
+/* Evindrast for C: dual numbers with their chain rules, and LU and Jacobi over them. Link libevindrast.a, which
+   bin/library proves and writes for the machine at hand.
 
    How every call works
-   - A record is a few doubles one after the other, the real part first (EVINDRAST_DUAL and so on say which). A matrix is n * n records row by
-     row, a vector n records.
-   - A buffer is lent as a pointer and a length. A length counts doubles (or size_t's, for an order), never bytes or records. Pointers are not
-     null, also where the length is 0, and a buffer that is written overlaps no other.
-   - The answer is 0 or the number of a refusal (enum evindrast_number). A call that is refused writes nothing; the one exception is LU's 6. What a buffer
-     held before has no effect on a result.
-   - Every call ends with an answer, for every input, length and bit pattern. None allocates or keeps anything, and calls may run at the same time.
-   - A NaN counts as positive, whatever its bits. One that evindrast_record, an operator or evindrast_sqrt_word gives has the bits 7ff8000000000000; the
-     others' may have any bits of a NaN.
+   - A record is a few doubles one after the other, the real part first (enum evindrast_kind says which). A matrix is
+     n * n records row by row, a vector n records.
+   - A buffer is lent as a pointer and a length. A length counts doubles (or size_t's, for an order), never bytes or
+     records. Pointers are not null, also where the length is 0, and what a call writes, a count included, overlaps
+     nothing else that it is lent.
+   - The answer is 0 or the number of a refusal (enum evindrast_number). A call that is refused writes nothing, with
+     one exception: LU's 6 leaves its column, and zeros in both outputs. What a buffer held before has no effect on a
+     result.
+   - Every call ends with an answer, for every input, length and bit pattern. None allocates or keeps anything, and
+     calls may run at the same time.
+   - A NaN counts as positive, whatever its bits. One that evindrast_record, an operator or evindrast_sqrt_word gives
+     has the bits 7ff8000000000000; the others' may have any bits of a NaN.
+
+   The floating-point environment
+   The promises are for the environment in which a program starts: results rounded to nearest, ties to even, subnormal
+   numbers kept, exceptions not trapped. It belongs to a thread, and no call looks at it. fesetround changes it, and so
+   does flush-to-zero with its like for operands, which -ffast-math sets at start-up where a program is linked with it.
+   Then other results come, without a word: with both, the root of 2^-1074 is 2^-1074 and the 1 by 1 matrix (2^-1074, 1)
+   is singular; in another direction of rounding last digits change. evindrast_environment tells whether the environment
+   is the one that the promises are for. Ask it once on each thread.
+
    docs/PROMISES.md names the promise of each function, and the theorems behind it. */
 #ifndef EVINDRAST_H
 #define EVINDRAST_H
 
 #include <stddef.h>
 #include <stdint.h>
+#include <string.h>
+
+/* The version of this header and of the library beside it. */
+#define EVINDRAST_VERSION "0.2.0"
+#define EVINDRAST_VERSION_MAJOR 0
+#define EVINDRAST_VERSION_MINOR 2
+#define EVINDRAST_VERSION_PATCH 0
 
 #ifdef __cplusplus
 extern "C" {
 #endif
 
-/* The numbers that a call gives back. Where several hold, matrices are checked in the order 1, 3, 2, 4, 7, 8, then the work begins. */
+/* The numbers that a call gives back. Where several hold, a matrix is refused by the first in the order 1, 3, 2, 4, 7,
+   8, then the work begins; a record by 2 before 5. */
 enum evindrast_number {
     EVINDRAST_DONE = 0,
     EVINDRAST_TOO_LARGE = 1,          /* n above 32 */
-    EVINDRAST_WRONG_LENGTH = 2,       /* a lent length is not the one wanted, or an unknown kind or function */
+    EVINDRAST_WRONG_LENGTH = 2,       /* a lent length is not the one wanted; or an unknown kind or function */
     EVINDRAST_EMPTY = 3,              /* Jacobi with n = 0 */
     EVINDRAST_LIMIT_TOO_LARGE = 4,    /* a sweep limit above 1,000 */
     EVINDRAST_EXPONENT_TOO_LARGE = 5, /* a powi exponent outside -1,024..1,024 */
@@ -54,9 +74,9 @@ enum evindrast_kind {
 #define EVINDRAST_HYPERDUAL_FLOATS 4
 #define EVINDRAST_HYPERHYPERDUAL_FLOATS 8
 
-/* The functions of evindrast_record. Each takes the records x, y, z that are named, and the floats in brackets, in this order; it gives one
-   record unless said otherwise. Values like sin(re) are the caller's own, taken at the real part of x (yre: of y): the result is right for
-   the values handed in, and nothing checks them. */
+/* The functions of evindrast_record. Each takes the records x, y, z that are named, and the floats in brackets, in this
+   order; it gives one record unless said otherwise. Values like sin(re) are the caller's own, taken at the real part of
+   x (yre: of y): the result is right for the values handed in, and nothing checks them. */
 enum evindrast_function {
     /* constants and constructors */
     EVINDRAST_ZERO = 0x01,        /* none */
@@ -144,15 +164,16 @@ enum evindrast_function {
 /* One function of one kind of record.
    kind, function: of the enums above.
    exponent:       powi's, else not read (pass 0).
-   records:        exactly the records that the function takes, one after the other; records_len their doubles.
+   records:        exactly the records that the function takes, one after the other; records_len counts their doubles.
    floats:         exactly the floats in the function's brackets.
    out:            exactly one record; two for sin_cos; one double for a truth. Written where the answer is 0.
-   Answers: 0; 2 where the kind or the function is unknown or not offered for this kind, or any of the three lengths is another; 5 for powi's
-   exponent. */
-uint32_t evindrast_record(uint32_t kind, uint32_t function, int32_t exponent, const double *records, size_t records_len, const double *floats,
-                          size_t floats_len, double *out, size_t out_len);
+   Answers: 0; 2 where the kind or the function is unknown, or the function not offered for this kind, or any of the
+   three lengths is another; then 5 for powi's exponent. */
+uint32_t evindrast_record(uint32_t kind, uint32_t function, int32_t exponent, const double *records, size_t records_len,
+                          const double *floats, size_t floats_len, double *out, size_t out_len);
 
-/* The operators of two records, sooner than by their numbers: each gives what evindrast_record gives for EVINDRAST_ADD, _SUB, _MUL, _DIV.
+/* The operators of two records, sooner than by their numbers: each gives what evindrast_record gives for EVINDRAST_ADD,
+   _SUB, _MUL, _DIV.
    records: two records, one after the other; out: one record, written where the answer is 0.
    Answers: 0; 2 where the kind is unknown or a length is another. */
 uint32_t evindrast_add(uint32_t kind, const double *records, size_t records_len, double *out, size_t out_len);
@@ -172,48 +193,79 @@ double evindrast_sqrt(double x);
 /* The same by the bits of x and of the root; a NaN leaves as 7ff8000000000000. */
 uint64_t evindrast_sqrt_word(uint64_t w);
 
-/* The LU factors of a matrix: of EVINDRAST_DUAL records, and under the names with hyperdual of EVINDRAST_HYPERDUAL records; w doubles a record, so w is 2
-   or 4.
+/* The LU factors of a matrix: of EVINDRAST_DUAL records, and under the names with hyperdual of EVINDRAST_HYPERDUAL
+   records; w doubles a record, so w is 2 or 4.
    a, factors: w * n * n doubles; order: n entries.
-   At 0: `factors` holds both factors (the unit diagonal of the lower one left out), `order` the row of a that each row came from, `*beside` the
-   number of swaps. At 6: `factors` is all +0.0, `order` all 0, `*beside` the column in which no pivot exceeds zero.
+   At 0: `factors` holds both factors (the unit diagonal of the lower one left out), `order` the row of a that each row
+   came from, `*beside` the number of swaps. At 6: `factors` is all +0.0, `order` all 0, `*beside` the column in which
+   no pivot exceeds zero.
    Answers: 0, 1, 2, 6. */
-uint32_t evindrast_lu(size_t n, const double *a, size_t a_len, double *factors, size_t factors_len, size_t *order, size_t order_len,
-                      size_t *beside);
-uint32_t evindrast_hyperdual_lu(size_t n, const double *a, size_t a_len, double *factors, size_t factors_len, size_t *order, size_t order_len,
-                                size_t *beside);
+uint32_t evindrast_lu(size_t n, const double *a, size_t a_len, double *factors, size_t factors_len, size_t *order,
+                      size_t order_len, size_t *beside);
+uint32_t evindrast_hyperdual_lu(size_t n, const double *a, size_t a_len, double *factors, size_t factors_len,
+                                size_t *order, size_t order_len, size_t *beside);
 
-/* x with a * x = b, from the factors and the order of a. A zero on the diagonal is not refused: infinities and NaNs follow.
+/* x with a * x = b, from the factors and the order of a. A zero on the diagonal is not refused: infinities and NaNs
+   follow.
    factors: w * n * n doubles; order: n entries; b, x: w * n doubles. x is written at 0.
    Answers: 0, 1, 2, 7. */
-uint32_t evindrast_solve(size_t n, const double *factors, size_t factors_len, const size_t *order, size_t order_len, const double *b,
-                         size_t b_len, double *x, size_t x_len);
-uint32_t evindrast_hyperdual_solve(size_t n, const double *factors, size_t factors_len, const size_t *order, size_t order_len, const double *b,
-                                   size_t b_len, double *x, size_t x_len);
+uint32_t evindrast_solve(size_t n, const double *factors, size_t factors_len, const size_t *order, size_t order_len,
+                         const double *b, size_t b_len, double *x, size_t x_len);
+uint32_t evindrast_hyperdual_solve(size_t n, const double *factors, size_t factors_len, const size_t *order,
+                                   size_t order_len, const double *b, size_t b_len, double *x, size_t x_len);
 
 /* The determinant, from the factors, the order and the number of swaps, into its parts, written at 0.
    factors: w * n * n doubles; order: n entries. For n = 0 it is 1 with derivative parts 0.
    Answers: 0, 1, 2, 7, 8. */
-uint32_t evindrast_determinant(size_t n, const double *factors, size_t factors_len, const size_t *order, size_t order_len, size_t swaps,
-                               double *re, double *eps);
-uint32_t evindrast_hyperdual_determinant(size_t n, const double *factors, size_t factors_len, const size_t *order, size_t order_len, size_t swaps,
-                                         double *re, double *eps1, double *eps2, double *eps1eps2);
+uint32_t evindrast_determinant(size_t n, const double *factors, size_t factors_len, const size_t *order,
+                               size_t order_len, size_t swaps, double *re, double *eps);
+uint32_t evindrast_hyperdual_determinant(size_t n, const double *factors, size_t factors_len, const size_t *order,
+                                         size_t order_len, size_t swaps, double *re, double *eps1, double *eps2,
+                                         double *eps1eps2);
 
 /* The inverse, from the factors and the order.
    factors, out: w * n * n doubles; order: n entries. out is written at 0.
    Answers: 0, 1, 2, 7. */
-uint32_t evindrast_inverse(size_t n, const double *factors, size_t factors_len, const size_t *order, size_t order_len, double *out,
-                           size_t out_len);
-uint32_t evindrast_hyperdual_inverse(size_t n, const double *factors, size_t factors_len, const size_t *order, size_t order_len, double *out,
-                                     size_t out_len);
+uint32_t evindrast_inverse(size_t n, const double *factors, size_t factors_len, const size_t *order, size_t order_len,
+                           double *out, size_t out_len);
+uint32_t evindrast_hyperdual_inverse(size_t n, const double *factors, size_t factors_len, const size_t *order,
+                                     size_t order_len, double *out, size_t out_len);
 
-/* Eigenvalues, ascending by their real parts, and eigenvectors, a column each, of a symmetric matrix of EVINDRAST_DUAL records; what stands below
-   the diagonal is not read.
-   a, vectors: 2 * n * n doubles; limit: the most sweeps; values: 2 * n doubles. At 0 `values` and `vectors` are written, and `*sweeps` is the
-   number of sweeps that did not stop at a zero threshold.
+/* Eigenvalues, ascending by their real parts, and eigenvectors, a column each, of a symmetric matrix of EVINDRAST_DUAL
+   records, as at most `limit` sweeps leave them; what stands below the diagonal is not read.
+   a, vectors: 2 * n * n doubles; values: 2 * n doubles. At 0 `values` and `vectors` are written, and `*sweeps` is the
+   number of sweeps that did not stop at a zero threshold; where it is `limit`, more sweeps might change them.
    Answers: 0, 1, 2, 3, 4. */
-uint32_t evindrast_jacobi_eigenvalue(size_t n, const double *a, size_t a_len, size_t limit, double *values, size_t values_len, double *vectors,
-                                     size_t vectors_len, size_t *sweeps);
+uint32_t evindrast_jacobi_eigenvalue(size_t n, const double *a, size_t a_len, size_t limit, double *values,
+                                     size_t values_len, double *vectors, size_t vectors_len, size_t *sweeps);
+
+/* What evindrast_environment tells. */
+#define EVINDRAST_ENVIRONMENT_ROUNDING 1   /* results are not rounded to nearest, ties to even */
+#define EVINDRAST_ENVIRONMENT_SUBNORMALS 2 /* subnormal results or operands are taken as zero */
+
+/* Whether the calling thread has the floating-point environment that the promises are for: 0, or the sum of what is
+   otherwise. It does not see whether exceptions are trapped. It is C and no proved function: the proofs know one
+   environment, in which a function without inputs has one answer, and a compiler may put that in its place. So it looks
+   at what the library's own additions and subtractions give, bit for bit. */
+static inline int evindrast_environment(void) {
+    /* 1 + 2^-53 and (1 + 2^-52) + 2^-53 lie halfway between two doubles: the first goes down to even, the second up */
+    static const uint64_t halfway[4] = {0x3ff0000000000000, 0x3ff0000000000001, 0x3ca0000000000000, 0x3ca0000000000000};
+    static const uint64_t to_even[2] = {0x3ff0000000000000, 0x3ff0000000000002};
+    /* 1.5 * 2^-1022 - 2^-1022 has a subnormal result, 2^-1022 - (-2^-1074) a subnormal operand */
+    static const uint64_t least[4] = {0x0018000000000000, 0x0010000000000000, 0x0010000000000000, 0x8000000000000001};
+    static const uint64_t kept[2] = {0x0008000000000000, 0x0010000000000001};
+    double records[4], out[2] = {0, 0};
+    int told = 0;
+    memcpy(records, halfway, sizeof records);
+    evindrast_add(EVINDRAST_DUAL, records, 4, out, 2);
+    if (memcmp(out, to_even, sizeof out) != 0)
+        told |= EVINDRAST_ENVIRONMENT_ROUNDING;
+    memcpy(records, least, sizeof records);
+    evindrast_sub(EVINDRAST_DUAL, records, 4, out, 2);
+    if (memcmp(out, kept, sizeof out) != 0)
+        told |= EVINDRAST_ENVIRONMENT_SUBNORMALS;
+    return told;
+}
 
 #ifdef __cplusplus
 }

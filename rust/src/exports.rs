@@ -1,7 +1,8 @@
 //! The library's functions over lent slices, as `include/evindrast.h` has them: for callers that
 //! keep their own buffers. The answer is 0 or a refusal's number ([`Refusal`](crate::Refusal)); a
-//! call that is refused writes nothing, but for [`lu`]'s 6. A matrix is n·n records row by row, a
-//! record its floats with the real part first; lengths count floats.
+//! call that is refused writes nothing, but for the 6 of [`lu`] and [`hyperdual_lu`]. A matrix is
+//! n·n records row by row, a record its floats with the real part first; lengths count floats. No
+//! size, length or number is too much: each call answers.
 
 extern "C" {
     fn evindrast_record(

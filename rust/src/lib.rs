@@ -37,19 +37,32 @@
 //! compared with num-dual by `compare/scale`. A call across the library's boundary cannot be
 //! inlined, so a single product costs more than num-dual's; matrices do not pay it.
 //!
+//! # The floating-point environment
+//! The promises are for results rounded to nearest, ties to even, with subnormal numbers kept and
+//! exceptions not trapped: the environment in which a program starts, and the one that Rust itself
+//! assumes. Code in another language may leave it, on its own thread; then other results come,
+//! without a word. [`environment()`] tells.
+//!
+//! # Sizes
+//! A [`Matrix`] has at most 32 rows ([`MAX_N`]), and its constructors check that before anything is
+//! allocated. A function either gives a [`Refusal`] or, where num-dual's signature or an index
+//! leaves no room for one, panics in words that stand under its heading "Panics"; none aborts, and
+//! no place or size wraps.
+//!
 //! # Differences from num-dual
 //! - The five records are over f64 alone, not nested; f64 itself is no [`DualNum`]. `Rem`,
 //!   `Display`, serde and num-traits' own traits are left out: their methods stand in [`DualNum`].
 //! - [`DualNum::powi`] refuses exponents outside -1,024..1,024.
-//! - [`LU`] and [`jacobi_eigenvalue`] take a [`Matrix`] of at most 32 rows and say why they refuse.
+//! - [`LU`] and [`jacobi_eigenvalue`] take a [`Matrix`] and say why they refuse.
 //! - A NaN counts as positive, and is 7ff8000000000000 where it leaves an operation on records.
 //!
 //! # Building
-//! The build script links `target/staticlib/libexports.a` of the repository, which `rt staticlib
-//! exports` writes for x86-64, or the `libexports.a` of the folder that `EVINDRAST_LIB_DIR` names.
+//! The build script links `libevindrast.a`, which `bin/library` of the repository proves and writes
+//! for the machine at hand, or the one of the folder that `EVINDRAST_LIB_DIR` names.
 #![warn(missing_docs)]
 
 mod dual_num;
+mod environment;
 pub mod exports;
 mod function;
 mod layout;
@@ -60,8 +73,9 @@ mod refusal;
 pub mod supplied;
 
 pub use dual_num::DualNum;
+pub use environment::{environment, Environment};
 pub use function::{Function, Kind};
 pub use linalg::{jacobi_eigenvalue, Eigen, Entry, LU};
-pub use matrix::Matrix;
+pub use matrix::{Matrix, MAX_N};
 pub use records::{Dual2_64, Dual3_64, Dual64, HyperDual64, HyperHyperDual64};
 pub use refusal::Refusal;

@@ -56,7 +56,7 @@ entry!(
     hyperdual_inverse
 );
 
-/// LU decomposition of a square matrix of at most 32 rows.
+/// LU decomposition of a square matrix.
 ///
 /// ```
 /// use evindrast::{Dual64, Matrix, Refusal, LU};
@@ -88,8 +88,8 @@ impl<T: Entry> LU<T> {
     /// Factors a matrix.
     ///
     /// # Errors
-    /// [`Refusal::TooLarge`]; [`Refusal::Singular`] with the column in which no entry left for a
-    /// pivot exceeds zero in the magnitude of its real part.
+    /// [`Refusal::Singular`] with the column in which no entry left for a pivot exceeds zero in the
+    /// magnitude of its real part.
     pub fn new(a: &Matrix<T>) -> Result<Self, Refusal> {
         let mut factors = Matrix::zeros(a.n());
         let mut order = vec![0; a.n()];
@@ -102,14 +102,15 @@ impl<T: Entry> LU<T> {
     /// From factors, order and swap count, be they LU's own or not.
     ///
     /// # Errors
-    /// [`Refusal::TooLarge`]; [`Refusal::WrongLength`] where the order has not n entries;
-    /// [`Refusal::NotAnOrder`]; [`Refusal::WrongSwaps`].
+    /// [`Refusal::WrongLength`] where the order has not n entries, then [`Refusal::NotAnOrder`], then
+    /// [`Refusal::WrongSwaps`].
     pub fn from_parts(
         factors: Matrix<T>,
         order: Vec<usize>,
         swaps: usize,
     ) -> Result<Self, Refusal> {
-        if factors.n() <= 32 && factors.n() != order.len() {
+        // the calls below take the order's length for n
+        if factors.n() != order.len() {
             return Err(Refusal::WrongLength);
         }
         // the determinant checks all that solve and inverse check
@@ -176,7 +177,8 @@ pub struct Eigen<T> {
     pub values: Vec<T>,
     /// The eigenvectors, a column each.
     pub vectors: Matrix<T>,
-    /// How many sweeps did not stop at a zero threshold.
+    /// How many sweeps did not stop at a zero threshold; where it is the limit, more sweeps might
+    /// change the rest.
     pub sweeps: usize,
 }
 
@@ -194,7 +196,8 @@ pub struct Eigen<T> {
 /// ```
 ///
 /// # Errors
-/// [`Refusal::TooLarge`]; [`Refusal::Empty`]; [`Refusal::LimitTooLarge`] for more than 1,000 sweeps.
+/// [`Refusal::Empty`] for a matrix without rows, then [`Refusal::LimitTooLarge`] for more than 1,000
+/// sweeps.
 pub fn jacobi_eigenvalue(a: &Matrix<Dual64>, max_iter: usize) -> Result<Eigen<Dual64>, Refusal> {
     let n = a.n();
     let mut values = vec![Dual64::ZERO; n];

@@ -104,7 +104,7 @@ macro_rules! record {
             Div div DivAssign div_assign /, DivFloat;
         }
         comparisons!($record);
-        runs!($record: Sum sum, Product product);
+        runs!($record: Sum sum +, Product product *);
     };
 }
 
@@ -233,13 +233,19 @@ macro_rules! comparisons {
     };
 }
 
-/// Sum from zero and Product from one, left to right.
+/// How many records of an iterator are collected for one call of the library.
+const RUN: usize = 1 << 16;
+
+/// Sum from zero and Product from one, left to right: a run in one call of the library, and from
+/// there record by record, so that an iterator of any length, or one that promises too many, takes
+/// little memory.
 macro_rules! runs {
-    ($record:ident: $($run:ident $name:ident),*) => {$(
+    ($record:ident: $($run:ident $name:ident $sign:tt),*) => {$(
         impl $run for $record {
             fn $name<I: Iterator<Item = Self>>(records: I) -> Self {
-                let records: Vec<Self> = records.collect();
-                joined(exports::$name, &records)
+                let mut records = records.fuse();
+                let run: Vec<Self> = records.by_ref().take(RUN).collect();
+                records.fold(joined(exports::$name, &run), |joined, record| joined $sign record)
             }
         }
 

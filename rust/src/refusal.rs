@@ -1,13 +1,17 @@
 //! Why a call was refused.
 use std::fmt;
 
-/// The refusals of the library, by the project's numbers. Nothing was written by a refused call.
+/// The refusals of the library, by the project's numbers. A refused call leaves every lent buffer as
+/// it was, but for 6: LU then leaves the column, and zeros in both outputs ([`exports::lu`]).
+///
+/// [`exports::lu`]: crate::exports::lu
 #[derive(Copy, Clone, Debug, PartialEq, Eq)]
 #[non_exhaustive]
 pub enum Refusal {
     /// 1: a matrix of more than 32 rows.
     TooLarge,
-    /// 2: a length is not the one wanted.
+    /// 2: a length is not the one wanted, or the record has no such function, or there is no kind or
+    /// function of this number ([`exports`](crate::exports)).
     WrongLength,
     /// 3: Jacobi of an empty matrix.
     Empty,
@@ -62,7 +66,9 @@ impl fmt::Display for Refusal {
     fn fmt(&self, f: &mut fmt::Formatter) -> fmt::Result {
         let reason = match self {
             Refusal::TooLarge => "a matrix has at most 32 rows",
-            Refusal::WrongLength => "a length is not the one wanted",
+            Refusal::WrongLength => {
+                "a length is not the one wanted, or the record has no such function"
+            }
             Refusal::Empty => "an empty matrix has no eigenvalues",
             Refusal::LimitTooLarge => "at most 1,000 sweeps may be asked for",
             Refusal::ExponentTooLarge => "powi's exponent is outside -1,024..1,024",

@@ -1,6 +1,6 @@
 //! The C header and this crate give everything the same number.
+use evindrast::{jacobi_eigenvalue, Kind, Matrix, Refusal, MAX_N};
 use evindrast::{Dual2_64, Dual3_64, Dual64, DualNum, Function, HyperDual64, HyperHyperDual64};
-use evindrast::{Kind, Refusal};
 use std::collections::BTreeMap;
 
 const HEADER: &str = include_str!("../../include/evindrast.h");
@@ -46,18 +46,42 @@ fn kinds() {
     assert_eq!(kind("Hyperhyperdual"), Kind::HyperHyperDual as u32);
 }
 
+/// What stands behind a name, without the comment.
+fn defined(name: &str) -> &'static str {
+    let start = format!("#define EVINDRAST_{name} ");
+    let line = HEADER.lines().find_map(|line| line.strip_prefix(&start)).expect("the line");
+    line.split("/*").next().expect("what stands there").trim()
+}
+
+fn defined_number(name: &str) -> usize {
+    defined(name).parse().expect("a number")
+}
+
 #[test]
 fn floats() {
-    let floats = |name: &str| -> usize {
-        let start = format!("#define EVINDRAST_{name}_FLOATS ");
-        let line = HEADER.lines().find_map(|line| line.strip_prefix(&start)).expect("the line");
-        line.parse().expect("a number")
-    };
-    assert_eq!(floats("DUAL"), Dual64::PARTS);
-    assert_eq!(floats("DUAL2"), Dual2_64::PARTS);
-    assert_eq!(floats("DUAL3"), Dual3_64::PARTS);
-    assert_eq!(floats("HYPERDUAL"), HyperDual64::PARTS);
-    assert_eq!(floats("HYPERHYPERDUAL"), HyperHyperDual64::PARTS);
+    assert_eq!(defined_number("DUAL_FLOATS"), Dual64::PARTS);
+    assert_eq!(defined_number("DUAL2_FLOATS"), Dual2_64::PARTS);
+    assert_eq!(defined_number("DUAL3_FLOATS"), Dual3_64::PARTS);
+    assert_eq!(defined_number("HYPERDUAL_FLOATS"), HyperDual64::PARTS);
+    assert_eq!(defined_number("HYPERHYPERDUAL_FLOATS"), HyperHyperDual64::PARTS);
+}
+
+#[test]
+fn limits() {
+    assert_eq!(defined_number("MAX_N"), MAX_N);
+    let (a, sweeps) = (Matrix::from_rows([[Dual64::ONE]]), defined_number("MAX_SWEEPS"));
+    assert!(jacobi_eigenvalue(&a, sweeps).is_ok() && jacobi_eigenvalue(&a, sweeps + 1).is_err());
+    let (x, exponent) = (Dual64::ONE, defined_number("MAX_EXPONENT") as i32);
+    assert!(x.try_powi(exponent).is_ok() && x.try_powi(exponent + 1).is_err());
+    assert!(x.try_powi(-exponent).is_ok() && x.try_powi(-exponent - 1).is_err());
+}
+
+/// Header and crate are of one version.
+#[test]
+fn version() {
+    assert_eq!(defined("VERSION").trim_matches('"'), env!("CARGO_PKG_VERSION"));
+    let parts = ["MAJOR", "MINOR", "PATCH"].map(|part| defined(&format!("VERSION_{part}")));
+    assert_eq!(parts.join("."), env!("CARGO_PKG_VERSION"));
 }
 
 #[test]

@@ -59,7 +59,8 @@ fn parts_are_checked() {
     assert_eq!(from(&[0, 1, 2], 1).err(), Some(8));
     assert_eq!(from(&[0, 1, 2], 34).err(), Some(8));
     assert_eq!(from(&[0, 2, 1], 31).err(), None);
-    let large = LU::from_parts(Matrix::<Dual64>::zeros(33), vec![0; 33], 0);
+    let large = Matrix::<Dual64>::try_zeros(33)
+        .and_then(|factors| LU::from_parts(factors, (0..33).collect(), 0));
     assert_eq!(large.unwrap_err(), Refusal::TooLarge);
 }
 

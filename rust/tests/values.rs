@@ -60,11 +60,17 @@ fn p6_nothing_at_all() {
 
 #[test]
 fn p7_thirty_two_rows_and_one_more() {
-    let identity = |n| Matrix::from_fn(n, |r, c| if r == c { x(1.0) } else { x(0.0) });
-    assert_eq!(parts(&[LU::new(&identity(32)).unwrap().determinant()]), [(1.0, 0.0)]);
-    let refusal = LU::new(&identity(33)).unwrap_err();
+    let identity = |n| Matrix::try_from_fn(n, |r, c| if r == c { x(1.0) } else { x(0.0) });
+    assert_eq!(parts(&[LU::new(&identity(32).unwrap()).unwrap().determinant()]), [(1.0, 0.0)]);
+    // the crate refuses such a matrix when it is made, the library when it is lent
+    let refusal = identity(33).and_then(|a| LU::new(&a)).unwrap_err();
     assert_eq!((refusal, refusal.number()), (Refusal::TooLarge, 1));
-    assert_eq!(jacobi_eigenvalue(&identity(33), 50).unwrap_err(), Refusal::TooLarge);
+    let refusal = identity(33).and_then(|a| jacobi_eigenvalue(&a, 50)).unwrap_err();
+    assert_eq!(refusal, Refusal::TooLarge);
+    let (a, mut out, mut values) = ([1.0; 2178], [0.0; 2178], [0.0; 66]);
+    let (mut order, mut beside) = ([0; 33], 0);
+    assert_eq!(exports::lu(33, &a, &mut out, &mut order, &mut beside), 1);
+    assert_eq!(exports::jacobi_eigenvalue(33, &a, 50, &mut values, &mut out, &mut beside), 1);
 }
 
 #[test]
