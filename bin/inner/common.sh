@@ -25,7 +25,7 @@ most() { [ $(($# - 1)) -le "$1" ] || { shift "$(($1 + 1))" && wrong "'$1' is one
 # Sets kit, the folder of the Rattle toolchain, as `rt` itself finds it, and machine, what it runs on.
 find_kit() {
     need rt "it is the command of the Rattle toolchain"
-    kit=$(rt doc) || exit
+    kit=$(rt doc) || exit 1
     kit=$(cd "${kit%/docs/*}" && pwd -P)
     machine=$(uname -m)
     export RATTLE_HOME=$kit
@@ -48,16 +48,16 @@ reached() {
 }
 
 # One word for all that decides what is built from a crate: its sources and those below it, the toolchain, the
-# machine, where all of it stands, and these scripts. stamp_of NAME
-stamp_of() {
-    local crate
+# machine and these scripts. stamp_of NAME
+stamp_of() (
+    cd "$root"
     {
-        printf '%s\0' "$self" "$root"/bin/inner/* "$root/crates.txt" "$kit/KIT-ID"
+        printf '%s\0' "${self#"$root/"}" bin/inner/* crates.txt "$kit/KIT-ID"
         for crate in $(reached "$1"); do
-            find "$root/crates/$crate"/{src,specs,proofs} -type f -print0 2> /dev/null || true # some have no proofs
+            find "crates/$crate"/{src,specs,proofs} -type f -print0 2> /dev/null || true # some have no proofs
         done
-    } | LC_ALL=C sort -z | xargs -0 sha256sum | sha256sum | sed "s| .*| $machine|"
-}
+    } | LC_ALL=C sort -z | xargs -0 sha256sum | sha256sum | sed "s/ .*/ $machine/"
+)
 
 # Has rt do something, with a line for each crate that it proves. All that it says goes to target/log/LOG:
 # proving LOG WORDS..
@@ -69,7 +69,7 @@ proving() {
     set +e
     (cd "$root" && exec rt "$@") < /dev/null 2>&1 | while IFS= read -r line; do
         printf '%s\n' "$line" >> "$log"
-        case $line in 'rt: '*' proved ('[0-9]*' s)') printf '  %s\n' "${line#rt: }" >&2 ;; esac
+        case $line in 'rt: '*' proved ('[0-9]*' s)' | 'rt: '*' NOT PROVED'*) printf '  %s\n' "${line#rt: }" >&2 ;; esac
     done
     status=${PIPESTATUS[0]}
     set -e
