@@ -20,7 +20,7 @@ fn main() {
             callers_folder().join(named)
         }
         Some(named) => PathBuf::from(named),
-        None => Path::new(env!("CARGO_MANIFEST_DIR")).join("../target/library"),
+        None => Path::new(env!("CARGO_MANIFEST_DIR")).with_file_name("target/library"),
     };
     let library = folder.join("libevindrast.a");
     if !library.is_file() {

@@ -5,13 +5,14 @@
 unset CDPATH
 root=$(cd "$(dirname "${BASH_SOURCE[0]}")/../.." && pwd -P)
 self=$(cd "$(dirname "$0")" && pwd -P)/$(basename "$0")
+me=${self#"$root/"}
 
 # The comment that heads the command.
 usage() { sed -n '2,${/^#/!q; s/^# \{0,1\}//; p}' "$self"; }
 
 # Something that was asked wrongly, something that is missing or went wrong.
-wrong() { printf '%s: %s\n\n' "$0" "$*" >&2; usage >&2; exit 2; }
-fail() { printf '%s: %s\n' "$0" "$*" >&2; exit 1; }
+wrong() { printf '%s: %s\n\n' "$me" "$*" >&2; usage >&2; exit 2; }
+fail() { printf '%s: %s\n' "$me" "$*" >&2; exit 1; }
 
 # A tool that must be there: need TOOL WHAT-IT-IS
 need() { command -v "$1" > /dev/null || fail "$1 is missing: $2"; }
@@ -52,7 +53,7 @@ reached() {
 stamp_of() (
     cd "$root"
     {
-        printf '%s\0' "${self#"$root/"}" bin/inner/* crates.txt "$kit/KIT-ID"
+        printf '%s\0' "$me" bin/inner/* crates.txt "$kit/KIT-ID"
         for crate in $(reached "$1"); do
             find "crates/$crate"/{src,specs,proofs} -type f -print0 2> /dev/null || true # some have no proofs
         done
