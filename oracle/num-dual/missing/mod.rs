@@ -1,4 +1,4 @@
-//! The modules of `datatypes` that stand in docs/src, and `real`, which `lib.rs` names.
+//! The modules of `datatypes` that stand in src, and `real`, which `lib.rs` names.
 pub mod dual;
 pub mod dual2;
 pub mod dual3;
