@@ -79,7 +79,7 @@ proving() {
     fail "rt $1 failed (${log#"$root/"} has all that it said)"
 }
 
-# A folder that the caller names from where he stands is the same folder for every command that this one starts.
+# A folder that callers name from where they stand is the same folder for every command that this one starts.
 case ${EVINDRAST_LIB_DIR:-/} in /*) ;; *) export EVINDRAST_LIB_DIR=$PWD/$EVINDRAST_LIB_DIR ;; esac
 
 case ${1:-} in -h | --help) usage; exit ;; esac
