@@ -13,10 +13,10 @@ use Rattle.algebra.specs.Flat.{Layout, Lawful, decode}
 use Rattle.algebra.specs.Outcome.{value}
 use Rattle.algebra.proofs.Flat.{decode-length, decode-size, encode-length}
 use Rattle.algebra.proofs.Loop.{upto-keep}
-use Rattle.matrices.specs.Entries.{solveRefusal, inverseRefusal, determinantRefusal, LuLeft, luFinish, luLeft}
+use Rattle.matrices.specs.Entries.{solveRefusal, inverseRefusal, determinantRefusal, luFinish, luLeft}
 use Rattle.matrices.specs.Matrix.{exchange, exchangeRows, store}
 use Rattle.matrices.specs.Lu.{Run, going, singular, numbers, bring, pivotOf, subtract, reduceRow, reduce, reduceRun, column, luOf}
-use Rattle.matrices.proofs.Answers.{LuFits, LeavesOrder, not-both, lu-cases, accepted-order}
+use Rattle.matrices.proofs.Answers.{LeavesOrder, not-both, lu-cases, accepted-order}
 use Rattle.matrices.proofs.Permutation.{order-isOrder}
 
 -- ---- LU keeps the number of records

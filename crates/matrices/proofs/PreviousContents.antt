@@ -18,7 +18,7 @@ use Rattle.matrices.specs.PreviousContents.{EqualLu, EqualSolve}
 use Rattle.matrices.proofs.Answers.{not-both, number-one, never-six, lu-cases}
 
 module _ {R : Type 0} (A : Algebra R) (L : Layout R) (n : ℕ) where
-  -- the result's buffers
+  -- whatever the result's buffers held
   pub lu-equal : (a f f′ : List Float) (p p′ : List ℕ) → length f ≡ length f′ → length p ≡ length p′ → EqualLu (luLeft A L n a f p) (luLeft A L n a f′ p′)
   unfolding luLeft
   lu-equal a f f′ p p′ hf hp =
