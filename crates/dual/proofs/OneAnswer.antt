@@ -22,6 +22,8 @@ use Rattle.dual.proofs.Dual.one.Kinds as one-k
 use Rattle.dual.proofs.Dual.one.Reads as one
 use Rattle.dual.proofs.Dual.is_one.Kinds as is-one-k
 use Rattle.dual.proofs.Dual.is_one.Reads as is-one
+use Rattle.dual.proofs.Dual.nderiv.Kinds as nderiv-k
+use Rattle.dual.proofs.Dual.nderiv.Reads as nderiv
 use Rattle.dual.proofs.Dual.add.Kinds as add-k
 use Rattle.dual.proofs.Dual.add.Reads as add
 use Rattle.dual.proofs.Dual.sub.Kinds as sub-k
@@ -112,6 +114,9 @@ one-only κs a x y v w h p q = (p ∙ sym q, refl)
 
 pub is-one-only : Only 0 is-one-k.ps is-one-k.r is-one.Pre is-one.Post
 is-one-only κs a x y v w h p q = (p ∙ sym q, refl)
+
+pub nderiv-only : Only 0 nderiv-k.ps nderiv-k.r nderiv.Pre nderiv.Post
+nderiv-only κs a x y v w h p q = (p ∙ sym q, refl)
 
 pub add-only : Only 0 add-k.ps add-k.r add.Pre add.Post
 add-only κs a x y v w h p q = (p ∙ sym q, refl)

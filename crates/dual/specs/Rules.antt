@@ -1,5 +1,6 @@
 -- The rules of `Dual`, each a fixed sequence of operations, in the order and with the names of datatypes/dual.rs and macros.rs; then `Dual` as an
 -- `Algebra`, over which everything else is defined, and its layout in flat floats. Definitions only.
+use Prim.Native.Nat.{ℕ}
 use mathlib.Core.List.{[], _∷_}
 use lib.Ieee.{Float, neg}
 use Rattle.real.specs.Operations.{_⊕_, _⊖_, _⊗_, _⊘_, zero, one}
@@ -53,6 +54,10 @@ dualMulFloat self other = dual (self .re ⊗ other) (self .eps ⊗ other)
 
 unfoldable pub dualDivFloat : Dual → Float → Dual
 dualDivFloat self other = dual (self .re ⊘ other) (self .eps ⊘ other)
+
+-- the highest order of a derivative that the record carries: NDERIV
+abbrev pub dualNderiv : ℕ
+dualNderiv = 1
 
 -- `Dual` by its operations
 abbrev pub dualAlgebra : Algebra Dual

@@ -32,7 +32,7 @@ impl Dual {
 
     pub const ONE: Dual = Dual { re: 1.0, eps: 0.0 };
 
-    // How many derivatives the record carries.
+    // The highest order of a derivative that the record carries.
     pub const NDERIV: usize = 1;
 
     // Create a new dual number from its fields.

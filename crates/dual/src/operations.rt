@@ -11,7 +11,7 @@ ghost use Rattle.real.specs.Sign.{signOf};
 ghost use Rattle.algebra.specs.Algebra.{zeroOf, oneOf, addFloat, subFloat, magnitude};
 ghost use Rattle.algebra.specs.Flat.{recordAt, sumOf, productOf};
 ghost use Rattle.derivatives.specs.Apply.{absSubOf, signumOf};
-ghost use Rattle.dual.specs.Rules.{dualAdd, dualSub, dualNeg, dualMulFloat, dualDivFloat, dualAlgebra, dualLayout, outcome};
+ghost use Rattle.dual.specs.Rules.{dualAdd, dualSub, dualNeg, dualMulFloat, dualDivFloat, dualNderiv, dualAlgebra, dualLayout, outcome};
 
 impl Dual {
     pub fn zero() -> Self
@@ -36,6 +36,12 @@ impl Dual {
         ensures { λ r. ⌜ r ≡ eq (self .re) one ⌝ }
     {
         self.re == 1.0
+    }
+
+    pub fn nderiv() -> usize
+        ensures { λ r. ⌜ r ≡ dualNderiv ⌝ }
+    {
+        Self::NDERIV
     }
 
     pub fn add(self, other: Dual) -> Self

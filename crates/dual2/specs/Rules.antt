@@ -1,5 +1,6 @@
 -- The rules of `Dual2`, each a fixed sequence of operations, in the order and with the names of datatypes/dual2.rs and macros.rs; then `Dual2` as an
 -- `Algebra`, over which everything else is defined, and its layout in flat floats. Definitions only.
+use Prim.Native.Nat.{ℕ}
 use mathlib.Core.List.{[], _∷_}
 use lib.Ieee.{Float, neg}
 use Rattle.real.specs.Operations.{_⊕_, _⊖_, _⊗_, _⊘_, zero, one}
@@ -63,6 +64,10 @@ dual2MulFloat self other = dual2 (self .re ⊗ other) (self .v1 ⊗ other) (self
 
 unfoldable pub dual2DivFloat : Dual2 → Float → Dual2
 dual2DivFloat self other = dual2 (self .re ⊘ other) (self .v1 ⊘ other) (self .v2 ⊘ other)
+
+-- the highest order of a derivative that the record carries: NDERIV
+abbrev pub dual2Nderiv : ℕ
+dual2Nderiv = 2
 
 -- `Dual2` by its operations
 abbrev pub dual2Algebra : Algebra Dual2

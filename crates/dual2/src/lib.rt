@@ -42,7 +42,7 @@ impl Dual2 {
         v2: 0.0,
     };
 
-    // How many derivatives the record carries.
+    // The highest order of a derivative that the record carries.
     pub const NDERIV: usize = 2;
 
     // Create a new second order dual number from its fields.

@@ -11,7 +11,7 @@ ghost use Rattle.real.specs.Sign.{signOf};
 ghost use Rattle.algebra.specs.Algebra.{zeroOf, oneOf, addFloat, subFloat, magnitude};
 ghost use Rattle.algebra.specs.Flat.{recordAt, sumOf, productOf};
 ghost use Rattle.derivatives.specs.Apply.{absSubOf, signumOf};
-ghost use Rattle.dual2.specs.Rules.{dual2Add, dual2Sub, dual2Neg, dual2MulFloat, dual2DivFloat, dual2Algebra, dual2Layout, outcome};
+ghost use Rattle.dual2.specs.Rules.{dual2Add, dual2Sub, dual2Neg, dual2MulFloat, dual2DivFloat, dual2Nderiv, dual2Algebra, dual2Layout, outcome};
 
 impl Dual2 {
     pub fn zero() -> Self
@@ -36,6 +36,12 @@ impl Dual2 {
         ensures { λ r. ⌜ r ≡ eq (self .re) one ⌝ }
     {
         self.re == 1.0
+    }
+
+    pub fn nderiv() -> usize
+        ensures { λ r. ⌜ r ≡ dual2Nderiv ⌝ }
+    {
+        Self::NDERIV
     }
 
     pub fn add(self, other: Dual2) -> Self

@@ -1,5 +1,6 @@
 -- The rules of `Dual3`, each a fixed sequence of operations, in the order and with the names of datatypes/dual3.rs and macros.rs; then `Dual3` as an
 -- `Algebra`, over which everything else is defined, and its layout in flat floats. Definitions only.
+use Prim.Native.Nat.{ℕ}
 use mathlib.Core.List.{[], _∷_}
 use lib.Ieee.{Float, neg}
 use Rattle.real.specs.Operations.{_⊕_, _⊖_, _⊗_, _⊘_, zero, one}
@@ -67,6 +68,10 @@ dual3MulFloat self other = dual3 (self .re ⊗ other) (self .v1 ⊗ other) (self
 
 unfoldable pub dual3DivFloat : Dual3 → Float → Dual3
 dual3DivFloat self other = dual3 (self .re ⊘ other) (self .v1 ⊘ other) (self .v2 ⊘ other) (self .v3 ⊘ other)
+
+-- the highest order of a derivative that the record carries: NDERIV
+abbrev pub dual3Nderiv : ℕ
+dual3Nderiv = 3
 
 -- `Dual3` by its operations
 abbrev pub dual3Algebra : Algebra Dual3

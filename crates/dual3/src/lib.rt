@@ -47,7 +47,7 @@ impl Dual3 {
         v3: 0.0,
     };
 
-    // How many derivatives the record carries.
+    // The highest order of a derivative that the record carries.
     pub const NDERIV: usize = 3;
 
     // Create a new third order dual number from its fields.

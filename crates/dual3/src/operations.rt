@@ -11,7 +11,7 @@ ghost use Rattle.real.specs.Sign.{signOf};
 ghost use Rattle.algebra.specs.Algebra.{zeroOf, oneOf, addFloat, subFloat, magnitude};
 ghost use Rattle.algebra.specs.Flat.{recordAt, sumOf, productOf};
 ghost use Rattle.derivatives.specs.Apply.{absSubOf, signumOf};
-ghost use Rattle.dual3.specs.Rules.{dual3Add, dual3Sub, dual3Neg, dual3MulFloat, dual3DivFloat, dual3Algebra, dual3Layout, outcome};
+ghost use Rattle.dual3.specs.Rules.{dual3Add, dual3Sub, dual3Neg, dual3MulFloat, dual3DivFloat, dual3Nderiv, dual3Algebra, dual3Layout, outcome};
 
 impl Dual3 {
     pub fn zero() -> Self
@@ -36,6 +36,12 @@ impl Dual3 {
         ensures { λ r. ⌜ r ≡ eq (self .re) one ⌝ }
     {
         self.re == 1.0
+    }
+
+    pub fn nderiv() -> usize
+        ensures { λ r. ⌜ r ≡ dual3Nderiv ⌝ }
+    {
+        Self::NDERIV
     }
 
     pub fn add(self, other: Dual3) -> Self

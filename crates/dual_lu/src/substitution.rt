@@ -103,16 +103,16 @@ fn run(n: usize, a: &[f64], x: &mut [f64], stride: usize, base: usize)
     run_back(n, a, x, stride, base);
 }
 
-// x[i] starts as b[order[i]].
+// x[k] starts as b[order[k]].
 fn solve_starts(n: usize, order: &[usize], b: &[f64], x: &mut [f64])
     requires { ⌜ Order n (now order) ⌝ }
     requires { ⌜ length (now b) ≡ n * 2 ⌝ }
     requires { ⌜ length (now x) ≡ n * 2 ⌝ }
     ensures { λ _. ⌜ decode dualLayout (now (x .exit)) ≡ tabulate (λ k. getD (decode dualLayout (now (b .entry))) (getD (now (order .entry)) k 0) (zeroOf dualAlgebra)) n 0 ⌝ }
 {
-    for i in 0..n {
-        let p = order[i];
-        dual_cells::write(x, i, dual_cells::read(b, p));
+    for k in 0..n {
+        let p = order[k];
+        dual_cells::write(x, k, dual_cells::read(b, p));
     }
 }
 

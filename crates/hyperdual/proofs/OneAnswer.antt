@@ -24,6 +24,8 @@ use Rattle.hyperdual.proofs.HyperDual.one.Kinds as one-k
 use Rattle.hyperdual.proofs.HyperDual.one.Reads as one
 use Rattle.hyperdual.proofs.HyperDual.is_one.Kinds as is-one-k
 use Rattle.hyperdual.proofs.HyperDual.is_one.Reads as is-one
+use Rattle.hyperdual.proofs.HyperDual.nderiv.Kinds as nderiv-k
+use Rattle.hyperdual.proofs.HyperDual.nderiv.Reads as nderiv
 use Rattle.hyperdual.proofs.HyperDual.add.Kinds as add-k
 use Rattle.hyperdual.proofs.HyperDual.add.Reads as add
 use Rattle.hyperdual.proofs.HyperDual.sub.Kinds as sub-k
@@ -117,6 +119,9 @@ one-only κs a x y v w h p q = (p ∙ sym q, refl)
 
 pub is-one-only : Only 0 is-one-k.ps is-one-k.r is-one.Pre is-one.Post
 is-one-only κs a x y v w h p q = (p ∙ sym q, refl)
+
+pub nderiv-only : Only 0 nderiv-k.ps nderiv-k.r nderiv.Pre nderiv.Post
+nderiv-only κs a x y v w h p q = (p ∙ sym q, refl)
 
 pub add-only : Only 0 add-k.ps add-k.r add.Pre add.Post
 add-only κs a x y v w h p q = (p ∙ sym q, refl)

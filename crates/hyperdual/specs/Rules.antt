@@ -1,5 +1,6 @@
 -- The rules of `HyperDual`, each a fixed sequence of operations, in the order and with the names of datatypes/hyperdual.rs and macros.rs; then
 -- `HyperDual` as an `Algebra`, over which everything else is defined, and its layout in flat floats. Definitions only.
+use Prim.Native.Nat.{ℕ}
 use mathlib.Core.List.{[], _∷_}
 use lib.Ieee.{Float, neg}
 use Rattle.real.specs.Operations.{_⊕_, _⊖_, _⊗_, _⊘_, zero, one}
@@ -72,6 +73,10 @@ hyperDualMulFloat self other = hyperDual (self .re ⊗ other) (self .eps1 ⊗ ot
 
 unfoldable pub hyperDualDivFloat : HyperDual → Float → HyperDual
 hyperDualDivFloat self other = hyperDual (self .re ⊘ other) (self .eps1 ⊘ other) (self .eps2 ⊘ other) (self .eps1eps2 ⊘ other)
+
+-- the highest order of a derivative that the record carries: NDERIV
+abbrev pub hyperDualNderiv : ℕ
+hyperDualNderiv = 2
 
 -- `HyperDual` by its operations
 abbrev pub hyperDualAlgebra : Algebra HyperDual

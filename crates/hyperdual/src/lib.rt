@@ -46,7 +46,7 @@ impl HyperDual {
         eps1eps2: 0.0,
     };
 
-    // How many derivatives the record carries.
+    // The highest order of a derivative that the record carries.
     pub const NDERIV: usize = 2;
 
     // Create a new hyper-dual number from its fields.

@@ -11,7 +11,7 @@ ghost use Rattle.real.specs.Sign.{signOf};
 ghost use Rattle.algebra.specs.Algebra.{zeroOf, oneOf, addFloat, subFloat, magnitude};
 ghost use Rattle.algebra.specs.Flat.{recordAt, sumOf, productOf};
 ghost use Rattle.derivatives.specs.Apply.{absSubOf, signumOf};
-ghost use Rattle.hyperdual.specs.Rules.{hyperDualAdd, hyperDualSub, hyperDualNeg, hyperDualMulFloat, hyperDualDivFloat, hyperDualAlgebra, hyperDualLayout, outcome};
+ghost use Rattle.hyperdual.specs.Rules.{hyperDualAdd, hyperDualSub, hyperDualNeg, hyperDualMulFloat, hyperDualDivFloat, hyperDualNderiv, hyperDualAlgebra, hyperDualLayout, outcome};
 
 impl HyperDual {
     pub fn zero() -> Self
@@ -36,6 +36,12 @@ impl HyperDual {
         ensures { λ r. ⌜ r ≡ eq (self .re) one ⌝ }
     {
         self.re == 1.0
+    }
+
+    pub fn nderiv() -> usize
+        ensures { λ r. ⌜ r ≡ hyperDualNderiv ⌝ }
+    {
+        Self::NDERIV
     }
 
     pub fn add(self, other: HyperDual) -> Self

@@ -113,16 +113,16 @@ fn run(n: usize, a: &[f64], x: &mut [f64], stride: usize, base: usize)
     run_back(n, a, x, stride, base);
 }
 
-// x[i] starts as b[order[i]].
+// x[k] starts as b[order[k]].
 fn solve_starts(n: usize, order: &[usize], b: &[f64], x: &mut [f64])
     requires { ⌜ Order n (now order) ⌝ }
     requires { ⌜ length (now b) ≡ n * 4 ⌝ }
     requires { ⌜ length (now x) ≡ n * 4 ⌝ }
     ensures { λ _. ⌜ decode hyperDualLayout (now (x .exit)) ≡ tabulate (λ k. getD (decode hyperDualLayout (now (b .entry))) (getD (now (order .entry)) k 0) (zeroOf hyperDualAlgebra)) n 0 ⌝ }
 {
-    for i in 0..n {
-        let p = order[i];
-        hyperdual_cells::write(x, i, hyperdual_cells::read(b, p));
+    for k in 0..n {
+        let p = order[k];
+        hyperdual_cells::write(x, k, hyperdual_cells::read(b, p));
     }
 }
 

@@ -26,6 +26,8 @@ use Rattle.hyperhyperdual.proofs.HyperHyperDual.one.Kinds as one-k
 use Rattle.hyperhyperdual.proofs.HyperHyperDual.one.Reads as one
 use Rattle.hyperhyperdual.proofs.HyperHyperDual.is_one.Kinds as is-one-k
 use Rattle.hyperhyperdual.proofs.HyperHyperDual.is_one.Reads as is-one
+use Rattle.hyperhyperdual.proofs.HyperHyperDual.nderiv.Kinds as nderiv-k
+use Rattle.hyperhyperdual.proofs.HyperHyperDual.nderiv.Reads as nderiv
 use Rattle.hyperhyperdual.proofs.HyperHyperDual.add.Kinds as add-k
 use Rattle.hyperhyperdual.proofs.HyperHyperDual.add.Reads as add
 use Rattle.hyperhyperdual.proofs.HyperHyperDual.sub.Kinds as sub-k
@@ -122,6 +124,9 @@ one-only κs a x y v w h p q = (p ∙ sym q, refl)
 
 pub is-one-only : Only 0 is-one-k.ps is-one-k.r is-one.Pre is-one.Post
 is-one-only κs a x y v w h p q = (p ∙ sym q, refl)
+
+pub nderiv-only : Only 0 nderiv-k.ps nderiv-k.r nderiv.Pre nderiv.Post
+nderiv-only κs a x y v w h p q = (p ∙ sym q, refl)
 
 pub add-only : Only 0 add-k.ps add-k.r add.Pre add.Post
 add-only κs a x y v w h p q = (p ∙ sym q, refl)

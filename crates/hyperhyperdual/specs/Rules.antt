@@ -1,5 +1,6 @@
 -- The rules of `HyperHyperDual`, each a fixed sequence of operations, in the order and with the names of datatypes/hyperhyperdual.rs and
 -- macros.rs; then `HyperHyperDual` as an `Algebra`, over which everything else is defined, and its layout in flat floats. Definitions only.
+use Prim.Native.Nat.{ℕ}
 use mathlib.Core.List.{[], _∷_}
 use lib.Ieee.{Float, neg}
 use Rattle.real.specs.Operations.{_⊕_, _⊖_, _⊗_, _⊘_, zero, one}
@@ -125,6 +126,10 @@ hyperHyperDualDivFloat self other =
     (self .eps1eps3 ⊘ other)
     (self .eps2eps3 ⊘ other)
     (self .eps1eps2eps3 ⊘ other)
+
+-- the highest order of a derivative that the record carries: NDERIV
+abbrev pub hyperHyperDualNderiv : ℕ
+hyperHyperDualNderiv = 3
 
 -- `HyperHyperDual` by its operations
 abbrev pub hyperHyperDualAlgebra : Algebra HyperHyperDual

@@ -63,7 +63,7 @@ impl HyperHyperDual {
         eps1eps2eps3: 0.0,
     };
 
-    // How many derivatives the record carries.
+    // The highest order of a derivative that the record carries.
     pub const NDERIV: usize = 3;
 
     // Create a new hyper-hyper-dual number from its fields.

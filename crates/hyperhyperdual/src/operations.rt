@@ -11,7 +11,7 @@ ghost use Rattle.real.specs.Sign.{signOf};
 ghost use Rattle.algebra.specs.Algebra.{zeroOf, oneOf, addFloat, subFloat, magnitude};
 ghost use Rattle.algebra.specs.Flat.{recordAt, sumOf, productOf};
 ghost use Rattle.derivatives.specs.Apply.{absSubOf, signumOf};
-ghost use Rattle.hyperhyperdual.specs.Rules.{hyperHyperDualAdd, hyperHyperDualSub, hyperHyperDualNeg, hyperHyperDualMulFloat, hyperHyperDualDivFloat, hyperHyperDualAlgebra, hyperHyperDualLayout, outcome};
+ghost use Rattle.hyperhyperdual.specs.Rules.{hyperHyperDualAdd, hyperHyperDualSub, hyperHyperDualNeg, hyperHyperDualMulFloat, hyperHyperDualDivFloat, hyperHyperDualNderiv, hyperHyperDualAlgebra, hyperHyperDualLayout, outcome};
 
 impl HyperHyperDual {
     pub fn zero() -> Self
@@ -36,6 +36,12 @@ impl HyperHyperDual {
         ensures { λ r. ⌜ r ≡ eq (self .re) one ⌝ }
     {
         self.re == 1.0
+    }
+
+    pub fn nderiv() -> usize
+        ensures { λ r. ⌜ r ≡ hyperHyperDualNderiv ⌝ }
+    {
+        Self::NDERIV
     }
 
     pub fn add(self, other: HyperHyperDual) -> Self

@@ -10,3 +10,5 @@ mod Calls
 pub mod OneAnswer
 -- demand 3, and the part below the diagonal
 pub mod NeverSteered
+-- what a buffer held before, and what a refusal leaves
+pub mod PreviousContents

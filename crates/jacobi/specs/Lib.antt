@@ -4,3 +4,4 @@ pub mod Sort
 pub mod Entry
 pub mod Answer
 pub mod SameReals
+pub mod PreviousContents

@@ -11,7 +11,7 @@ use borrow.Author.Tests.{le-ltb, ltb-false, eqb-true, eq-eqb, ne-eqb}
 use Rattle.real.specs.Operations as float
 use Rattle.algebra.specs.Algebra.{Algebra, RealParts, reals}
 use Rattle.algebra.specs.Flat.{Layout, Lawful, Agrees, realParts, decode, encode}
-use Rattle.algebra.specs.Outcome.{value, refused, mapOutcome}
+use Rattle.algebra.specs.Outcome.{Outcome, value, refused, mapOutcome}
 use Rattle.algebra.proofs.Flat.{decode-reals, encode-decode, encode-reals}
 use Rattle.matrices.specs.Entries.{luRefusal, orderRefusal, swapsRefusal, solveRefusal, inverseRefusal, determinantRefusal, LuLeft, luAnswered, solveAnswered, luFinish, luLeft, solveLeft, inverseLeft, determinantLeft}
 use Rattle.matrices.specs.Determinant.{determinantOf}
@@ -81,6 +81,13 @@ determinant-fits w n f o e =
     let p = both (eqb f (n * n * w)) (eqb o n) (l .0) in
     (ltb-false 32 n (s .0), (eqb-true _ _ (p .0), eqb-true _ _ (p .1)))
 
+-- no value is a refusal, and two refusals of one kind have one number
+pub not-both : {S : Type 0} {x : S} {k : ℕ} → value x ≡ refused k → ⊥
+not-both e = let z : _≡_ {A = ℕ} 0 1 = cc in omega arith
+
+pub number-one : {S : Type 0} {j k : ℕ} → _≡_ {A = Outcome S} (refused j) (refused k) → j ≡ k
+number-one e = cc
+
 -- ---- the two ways out of an entry
 
 picked : {S : Type 0} (k : ℕ) (x y : S) → k ≡ 0 → x ≡ cond (eqb k 0) x y
@@ -129,6 +136,21 @@ module _ {R : Type 0} (A : Algebra R) (L : Layout R) (n : ℕ) where
   unfolding determinantLeft
   determinant-refused f o s k e ne = ap (λ (j : ℕ). refused j) e ∙ turned (determinantRefusal (L .width) n (length f) o s) _ _ (λ z. ne (e ∙ z))
 
+-- a call of LU by its three ways out: what holds of each holds of what it leaves
+module _ {R : Type 0} (A : Algebra R) (L : Layout R) (n : ℕ) (a f : List Float) (p : List ℕ) (P : LuLeft → Type 0) where
+  pub lu-cases : P (luAnswered (refused 1) 0 f p) → P (luAnswered (refused 2) 0 f p) → (LuFits (L .width) n (length a) (length f) (length p) → P (luFinish A L n (luOf A n (decode L a))))
+      → P (luLeft A L n a f p)
+  unfolding luLeft
+  lu-cases large long done = go (ltb 32 n) (eqb (length a) (n * n * L .width) && (eqb (length f) (n * n * L .width) && eqb (length p) n)) (λ e. done (lu-fits (L .width) n (length a) (length f) (length p) e))
+    where
+      number : Bool → Bool → ℕ
+      number s t = cond s 1 (cond t 0 2)
+
+      go : (s t : Bool) → (number s t ≡ 0 → P (luFinish A L n (luOf A n (decode L a)))) → P (cond (eqb (number s t) 0) (luFinish A L n (luOf A n (decode L a))) (luAnswered (refused (number s t)) 0 f p))
+      go true t h = large
+      go false false h = long
+      go false true h = h refl
+
 -- how a run ends, from what the buffers hold
 module _ {R : Type 0} (A : Algebra R) (L : Layout R) (W : Lawful L) (n : ℕ) (r : Run R) (f : List Float) (p : List ℕ) where
   pub finish-done : (swaps : ℕ) → r ≡ going (decode L f) p swaps → length f ≡ n * n * L .width → luAnswered (value swaps) 0 f p ≡ luFinish A L n r
@@ -148,17 +170,13 @@ pub record LeavesOrder (n : ℕ) (p : List ℕ) (swaps : ℕ) : Type 0 where
 
 module _ {R : Type 0} (A : Algebra R) (L : Layout R) (n : ℕ) where
   pub lu-leaves-order : (a f : List Float) (p : List ℕ) (swaps : ℕ) → luLeft A L n a f p .answer ≡ value swaps → LeavesOrder n (luLeft A L n a f p .order) swaps
-  unfolding luLeft
-  lu-leaves-order a f p swaps = go (ltb 32 n) refl (eqb (length a) (n * n * L .width) && (eqb (length f) (n * n * L .width) && eqb (length p) n)) (luOf A n (decode L a)) (lu-ordered A n (decode L a)) (lu-few A n (decode L a))
+  lu-leaves-order a f p swaps =
+      lu-cases A L n a f p (λ l. l .answer ≡ value swaps → LeavesOrder n (l .order) swaps) (λ e. absurd (not-both (sym e))) (λ e. absurd (not-both (sym e)))
+      (λ t. finish (t .small) (luOf A n (decode L a)) (lu-ordered A n (decode L a)) (lu-few A n (decode L a)))
     where
-      left : Bool → Bool → Run R → LuLeft
-      left s t r = let k : ℕ = cond s 1 (cond t 0 2) in cond (eqb k 0) (luFinish A L n r) (luAnswered (refused k) 0 f p)
-
-      go : (s : Bool) → ltb 32 n ≡ s → (t : Bool) (r : Run R) → Ordered n r → swapsIn r ≤ n → left s t r .answer ≡ value swaps → LeavesOrder n (left s t r .order) swaps
-      go true h t r o b e = absurd (let z : _≡_ {A = ℕ} 0 1 = cc in omega arith)
-      go false h false r o b e = absurd (let z : _≡_ {A = ℕ} 0 1 = cc in omega arith)
-      go false h true (singular c) o b e = absurd (let z : _≡_ {A = ℕ} 0 1 = cc in omega arith)
-      go false h true (going m q k) o b e = let z : k ≡ swaps = cc in record { small = ltb-false 32 n h; order = o .0; parities = o .1 ∙ ap isOdd z; few = omega arith }
+      finish : n ≤ 32 → (r : Run R) → Ordered n r → swapsIn r ≤ n → luFinish A L n r .answer ≡ value swaps → LeavesOrder n (luFinish A L n r .order) swaps
+      finish h (singular c) o b e = absurd (not-both (sym e))
+      finish h (going m q k) o b e = let z : k ≡ swaps = cc in record { small = h; order = o .0; parities = o .1 ∙ ap isOdd z; few = omega arith }
 
 -- solve, inverse and determinant accept it: 7 and 8 never refuse what LU made
 pub accepted-order : (n : ℕ) (p : List ℕ) (swaps : ℕ) → LeavesOrder n p swaps → (orderRefusal n p ≡ 0) × (swapsRefusal p swaps ≡ 0)
@@ -170,6 +188,13 @@ accepted-order n p swaps l =
     go : (t : Bool) → _≡_ {A = ℕ} (cond (differ t t) 8 0) 0
     go true = refl
     go false = refl
+
+-- 6 is LU's alone
+pub never-six : (s t u : Bool) → _≡_ {A = ℕ} (cond s 1 (cond t (cond u 0 7) 2)) 6 → ⊥
+never-six true t u e = omega arith
+never-six false true true e = omega arith
+never-six false true false e = omega arith
+never-six false false u e = omega arith
 
 -- ---- demand 3 of what two calls leave
 
@@ -217,12 +242,6 @@ module _ {R : Type 0} (A : Algebra R) (L : Layout R) (W : Lawful L) (G : Agrees 
       go : (t : Bool) → SameSolve (L .width) (cond t (solveAnswered (value tt) (encode L m)) (solveAnswered (refused k) x)) (cond t (solveAnswered (value tt) (encode L m′)) (solveAnswered (refused k) x′))
       go true = record { answer = refl; result = λ w. encode-reals L W A G m ∙ e ∙ sym (encode-reals L W A G m′) }
       go false = record { answer = refl; result = λ w. absurd (h w) }
-
-  never-six : (s t u : Bool) → _≡_ {A = ℕ} (cond s 1 (cond t (cond u 0 7) 2)) 6 → ⊥
-  never-six true t u e = omega arith
-  never-six false true true e = omega arith
-  never-six false true false e = omega arith
-  never-six false false u e = omega arith
 
   -- solve
   pub solve-same : (f f′ : List Float) (p : List ℕ) (b b′ x x′ : List Float) → length f ≡ length f′ → realParts (L .width) f ≡ realParts (L .width) f′

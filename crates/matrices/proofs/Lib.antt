@@ -20,6 +20,9 @@ pub mod RowsOfRecords
 pub mod Inner
 pub mod Starts
 pub mod Answers
+-- beside demand 3, of what the entries leave: previous contents and refusals, and that what LU left is accepted
+mod PreviousContents
+mod AfterLu
 -- what they ask of a record, and the code over it function by function
 pub mod Laws
 pub mod Turns

@@ -9,4 +9,5 @@ pub mod Order
 pub mod Entries
 pub mod Walk
 pub mod SameReals
+pub mod PreviousContents
 pub mod Answers

@@ -1,6 +1,6 @@
 -- Document 01's values P1 to P12 as one table: in each row what the definitions give, and what the document says, as numbers. A float is its word.
 -- Definitions only.
-use Prim.Native.Nat.{ℕ}
+use Prim.Native.Nat.{ℕ, _*_}
 use mathlib.Core.Bool.{Bool, true, false, _&&_}
 use mathlib.Core.List.{List, [], _∷_, _++_, map}
 use lib.Dec.{eqb}
@@ -16,7 +16,8 @@ use Rattle.dual.specs.declared.Dual.{Dual}
 use Rattle.dual.specs.Rules.{dual, dualDiv, dualAlgebra, dualLayout}
 use Rattle.dual3.specs.declared.Dual3.{Dual3}
 use Rattle.dual3.specs.Rules.{dual3, dual3Algebra}
-use Rattle.matrices.specs.Entries.{LuLeft, luRefusal, luLeft, determinantLeft}
+use Rattle.matrices.specs.Lu.{numbers}
+use Rattle.matrices.specs.Entries.{LuLeft, SolveLeft, luLeft, solveLeft, inverseLeft, determinantLeft}
 use Rattle.jacobi.specs.Entry.{JacobiLeft, jacobiLeft}
 
 -- what is got, and what is wanted
@@ -75,6 +76,10 @@ luWords l = counted (l .answer) ++ (l .column ∷ l .order) ++ words (l .factors
 abbrev pub luWords-of : ℕ → ℕ → List ℕ → List ℕ
 luWords-of n count a = luWords (luLeft dualAlgebra dualLayout n (floats a) (replicate count fortyNine) (replicate n 7))
 
+-- what solve or inverse leaves: number, result
+abbrev pub solveWords : SolveLeft → List ℕ
+solveWords l = numberOf (l .answer) ∷ words (l .result)
+
 -- what Jacobi leaves: number, sweep count, values, vectors
 abbrev pub jacobiWords : JacobiLeft → List ℕ
 jacobiWords l = counted (l .answer) ++ words (l .values) ++ words (l .vectors)
@@ -82,6 +87,19 @@ jacobiWords l = counted (l .answer) ++ words (l .values) ++ words (l .vectors)
 -- Jacobi of a 2 by 2 matrix given by words, limit 200
 abbrev pub jacobiWords-of : List ℕ → List ℕ
 jacobiWords-of a = jacobiWords (jacobiLeft dualAlgebra dualLayout 2 (floats a) 200 (replicate 4 fortyNine) (replicate 8 fortyNine))
+
+-- the other entries of n by n zeros, with the order 0, 1, .., n - 1, no swaps and limit 200, into buffers of the lengths wanted that hold other things
+abbrev pub solveOfZeros : ℕ → SolveLeft
+solveOfZeros n = solveLeft dualAlgebra dualLayout n (replicate (n * n * 2) float.zero) (numbers n) (replicate (n * 2) float.zero) (replicate (n * 2) fortyNine)
+
+abbrev pub inverseOfZeros : ℕ → SolveLeft
+inverseOfZeros n = inverseLeft dualAlgebra dualLayout n (replicate (n * n * 2) float.zero) (numbers n) (replicate (n * n * 2) fortyNine)
+
+abbrev pub determinantOfZeros : ℕ → Outcome Dual
+determinantOfZeros n = determinantLeft dualAlgebra dualLayout n (replicate (n * n * 2) float.zero) (numbers n) 0
+
+abbrev pub jacobiOfZeros : ℕ → JacobiLeft
+jacobiOfZeros n = jacobiLeft dualAlgebra dualLayout n (replicate (n * n * 2) float.zero) 200 (replicate (n * 2) fortyNine) (replicate (n * n * 2) fortyNine)
 
 -- P1 to P12, then the two unmarked values of Jacobi
 unfoldable pub table : List Row
@@ -103,8 +121,14 @@ table =
     ∷ row (luWords-of 0 0 []) (0 ∷ 0 ∷ 0 ∷ [])
     ∷ row (dualWords (determinantLeft dualAlgebra dualLayout 0 [] [] 0)) (0 ∷ 0x3ff0_0000_0000_0000 ∷ 0 ∷ [])
     ∷ row (jacobiWords (jacobiLeft dualAlgebra dualLayout 0 [] 200 [] [])) (3 ∷ 0 ∷ [])
-    -- P7: n = 32 passes the size check, 33 gives 1
-    ∷ row (luRefusal 2 32 2048 2048 32 ∷ luRefusal 2 33 2178 2178 33 ∷ []) (0 ∷ 1 ∷ [])
+    -- P7: n = 32 passes the size check: LU of 2,048 zeros is refused 6, column 0, both buffers zero, and the other entries are done; 33 gives 1, nothing written
+    ∷ row (luWords-of 32 2048 (replicate 2048 0)) (6 ∷ 0 ∷ 0 ∷ replicate 32 0 ++ replicate 2048 0)
+    ∷ row (numberOf (solveOfZeros 32 .answer) ∷ numberOf (inverseOfZeros 32 .answer) ∷ numberOf (determinantOfZeros 32) ∷ numberOf (jacobiOfZeros 32 .answer) ∷ []) (0 ∷ 0 ∷ 0 ∷ 0 ∷ [])
+    ∷ row (luWords-of 33 2178 (replicate 2178 0)) (1 ∷ 0 ∷ 0 ∷ replicate 33 7 ++ replicate 2178 0x4048_8000_0000_0000)
+    ∷ row (solveWords (solveOfZeros 33)) (1 ∷ replicate 66 0x4048_8000_0000_0000)
+    ∷ row (solveWords (inverseOfZeros 33)) (1 ∷ replicate 2178 0x4048_8000_0000_0000)
+    ∷ row (dualWords (determinantOfZeros 33)) (1 ∷ [])
+    ∷ row (jacobiWords (jacobiOfZeros 33)) (1 ∷ 0 ∷ replicate 66 0x4048_8000_0000_0000 ++ replicate 2178 0x4048_8000_0000_0000)
     -- P8: (5,1) powi 2 is (25,10); `Dual3` (5,1,0,0) powi 3 with 1 supplied is (125,75,30,6)
     ∷ row (dualWords (apply.applyOf dualAlgebra (dual five float.one) (Powi (pos 2) float.one))) (0 ∷ 0x4039_0000_0000_0000 ∷ 0x4024_0000_0000_0000 ∷ [])
     ∷ row (dual3Words (apply.applyOf dual3Algebra (dual3 five float.one float.zero float.zero) (Powi (pos 3) float.one)))

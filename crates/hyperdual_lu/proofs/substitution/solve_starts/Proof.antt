@@ -9,16 +9,16 @@ use Rattle.hyperdual_lu.proofs.substitution.solve_starts.Statement.{sta
 use Rattle.hyperdual_lu.proofs.substitution.solve_starts.Tie as tie
 
 abbrev Inv-loop : tie.InvT-loop
-Inv-loop n order b x₀ i₀ x i = Starting hyper-dual-laws (startOf hyper-dual-laws order b) x₀ x i
+Inv-loop n order b x₀ k₀ x k = Starting hyper-dual-laws (startOf hyper-dual-laws order b) x₀ x k
 
 abbrev μ-loop : tie.MeasureT-loop
-μ-loop n order b x₀ i₀ x i = n - i
+μ-loop n order b x₀ k₀ x k = n - k
 
 read-requires : tie.Need-read-requires Inv-loop μ-loop
 read-requires c κs =
     let at = c .before .before .before in
     let s = at .before .before .before .before in
-    let h = order-below (s .args .n) (now (s .args .order)) (s .pre .0) (at .loop .i) (c .before .before .loop-test .taken) in
+    let h = order-below (s .args .n) (now (s .args .order)) (s .pre .0) (at .loop .k) (c .before .before .loop-test .taken) in
     omega arith
 
 pub solve-starts-spec : {M : Type 1} → statement M
