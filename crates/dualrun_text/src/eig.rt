@@ -5,29 +5,17 @@ use jacobi::JacobiAnswer;
 ghost use mathlib.Core.Path.{_≡_};
 ghost use Prim.Native.Nat.{_*_, _<_, _≤_};
 ghost use lib.ListN.{length};
-ghost use Rattle.algebra.specs.Outcome.{numberOf};
 ghost use Rattle.jacobi.specs.Answer.{outcome};
 ghost use Rattle.dualrun_text.specs.Page.{page, written};
-ghost use Rattle.dualrun_text.specs.Lines.{pairLine};
 ghost use Rattle.dualrun_text.specs.Output.{eigLines, eigOfLines, eigOutput};
 
-// The line of a refusal: its number and 0.
-fn refusal(out: &mut [u8], answer: JacobiAnswer) -> usize
-    ensures { λ r. ⌜ page (now (out .exit)) r ≡ written (page (now (out .entry)) 0) (pairLine (numberOf (outcome answer)) 0) ⌝ }
-{
-    match answer {
-        JacobiAnswer::Refused { number } => write::pair(out, 0, number as usize, 0),
-        JacobiAnswer::Done { sweeps: _ } => write::pair(out, 0, 0, 0),
-    }
-}
-
-// What is printed of an answer: the sweeps, the eigenvalues and the vectors, or the line of a refusal.
+// What is printed of an answer: the sweeps, the eigenvalues and the vectors, or the number of a refusal and 0.
 fn lines(out: &mut [u8], n: usize, answer: JacobiAnswer, values: &[f64], vectors: &[f64]) -> usize
     requires { ⌜ (n ≤ 32) × (length (now values) ≡ n * 2) × (length (now vectors) ≡ n * n * 2) ⌝ }
     ensures { λ r. ⌜ page (now (out .exit)) r ≡ written (page (now (out .entry)) 0) (eigLines n (outcome answer) (now (values .entry)) (now (vectors .entry))) ⌝ }
 {
     let JacobiAnswer::Done { sweeps } = answer else {
-        return refusal(out, answer);
+        return write::pair(out, 0, answer.number() as usize, 0);
     };
     let first = write::pair(out, 0, 0, sweeps);
     let second = write::records(out, first, values, n);
@@ -60,14 +48,14 @@ pub(crate) fn command(text: &[u8], out: &mut [u8], n: usize, limit: usize, start
     requires { ⌜ start < 32 ⌝ }
     ensures { λ r. ⌜ page (now (out .exit)) r ≡ written (page (now (out .entry)) 0) (eigOutput (now (text .entry)) n limit start) ⌝ }
 {
-    if 32 < n {
-        return write::pair(out, 0, 1, 0);
+    if algebra::LARGEST_N < n {
+        return write::pair(out, 0, algebra::TOO_LARGE as usize, 0);
     }
     if n == 0 {
-        return write::pair(out, 0, 3, 0);
+        return write::pair(out, 0, algebra::EMPTY as usize, 0);
     }
-    if 1000 < limit {
-        return write::pair(out, 0, 4, 0);
+    if algebra::LARGEST_LIMIT < limit {
+        return write::pair(out, 0, algebra::LIMIT_TOO_LARGE as usize, 0);
     }
     let full = n * n * 2;
     let row = n * 2;
