@@ -30,3 +30,6 @@ pub const NOT_AN_ORDER: u32 = 7;
 
 // A determinant's swap count does not fit the order.
 pub const WRONG_SWAPS: u32 = 8;
+
+// A text that `dualrun` cannot read.
+pub const UNREADABLE: u32 = 9;

@@ -6,6 +6,7 @@ ghost use mathlib.Core.Path.{_≡_};
 ghost use Prim.Native.Nat.{_*_, _<_, _≤_};
 ghost use lib.ListN.{length};
 ghost use Rattle.jacobi.specs.Answer.{outcome};
+ghost use Rattle.dualrun_text.specs.Request.{eigLineRefusal};
 ghost use Rattle.dualrun_text.specs.Page.{page, written};
 ghost use Rattle.dualrun_text.specs.Output.{eigLines, eigOfLines, eigOutput};
 
@@ -43,19 +44,30 @@ fn of_lines(
     lines(out, n, answer, values, vectors)
 }
 
+// The number that the first line is refused by, 0 where it is not.
+pub(crate) fn line_refusal(n: usize, limit: usize) -> u32
+    ensures { λ r. ⌜ r ≡ eigLineRefusal n limit ⌝ }
+{
+    if algebra::LARGEST_N < n {
+        return algebra::TOO_LARGE;
+    }
+    if n == 0 {
+        return algebra::EMPTY;
+    }
+    if algebra::LARGEST_LIMIT < limit {
+        return algebra::LIMIT_TOO_LARGE;
+    }
+    0
+}
+
 // The command: 1, 3 and 4 are decided from the first line.
 pub(crate) fn command(text: &[u8], out: &mut [u8], n: usize, limit: usize, start: usize) -> usize
     requires { ⌜ start < 32 ⌝ }
     ensures { λ r. ⌜ page (now (out .exit)) r ≡ written (page (now (out .entry)) 0) (eigOutput (now (text .entry)) n limit start) ⌝ }
 {
-    if algebra::LARGEST_N < n {
-        return write::pair(out, 0, algebra::TOO_LARGE as usize, 0);
-    }
-    if n == 0 {
-        return write::pair(out, 0, algebra::EMPTY as usize, 0);
-    }
-    if algebra::LARGEST_LIMIT < limit {
-        return write::pair(out, 0, algebra::LIMIT_TOO_LARGE as usize, 0);
+    let number = line_refusal(n, limit);
+    if number != 0 {
+        return write::pair(out, 0, number as usize, 0);
     }
     let full = n * n * 2;
     let row = n * 2;

@@ -6,6 +6,7 @@ ghost use mathlib.Core.Path.{_≡_};
 ghost use Prim.Native.Nat.{_*_, _<_, _≤_};
 ghost use lib.ListN.{length};
 ghost use Rattle.matrices.specs.Answers.{luOutcome, luColumn};
+ghost use Rattle.dualrun_text.specs.Request.{luLineRefusal};
 ghost use Rattle.dualrun_text.specs.Page.{page, written};
 ghost use Rattle.dualrun_text.specs.Output.{luLines, luOfLines, luOutput};
 
@@ -42,13 +43,24 @@ fn of_lines(
     lines(out, n, answer, factors, order)
 }
 
+// The number that the first line is refused by, 0 where it is not.
+pub(crate) fn line_refusal(n: usize) -> u32
+    ensures { λ r. ⌜ r ≡ luLineRefusal n ⌝ }
+{
+    if algebra::LARGEST_N < n {
+        return algebra::TOO_LARGE;
+    }
+    0
+}
+
 // The command: 1 is decided from the first line.
 pub(crate) fn command(text: &[u8], out: &mut [u8], n: usize, start: usize) -> usize
     requires { ⌜ start < 32 ⌝ }
     ensures { λ r. ⌜ page (now (out .exit)) r ≡ written (page (now (out .entry)) 0) (luOutput (now (text .entry)) n start) ⌝ }
 {
-    if algebra::LARGEST_N < n {
-        return write::pair(out, 0, algebra::TOO_LARGE as usize, 0);
+    let number = line_refusal(n);
+    if number != 0 {
+        return write::pair(out, 0, number as usize, 0);
     }
     let full = n * n * 2;
     let mut matrix = [0.0f64; 2048];
