@@ -1,4 +1,4 @@
--- When the beginning of a text decides what `dualrun` writes, whatever follows. Definitions only.
+-- When the beginning of a text decides what `dualrun` writes, whatever follows (crates/dualrun_text/proofs/LineDecides.antt). Definitions only.
 use Prim.Native.Nat.{ℕ}
 use mathlib.Core.Bool.{Bool, not, _&&_, _||_}
 use mathlib.Core.List.{List}
@@ -15,6 +15,6 @@ noNewline text = every (λ i. not (eqb (byteAt text i) 10)) (length text)
 unfoldable pub hasLine : List ℕ → Bool
 hasLine text = leb 24 (length text) || not (noNewline text)
 
--- the first line has come and is refused, or cannot be read
+-- the first line has come, and is refused or cannot be read
 unfoldable pub decidedOf : List ℕ → Bool
 decidedOf text = hasLine text && not (eqb (lineRefusal (requestOf text)) 0)

@@ -48,7 +48,7 @@ unfoldable pub eigOfLines : List ℕ → ℕ → ℕ → ℕ → List Float → 
 eigOfLines text n limit start values vectors =
     cond (isBody text start (n * n * 2)) (eigPrinted n (jacobiLeft dualAlgebra dualLayout n (floatsFrom text start (n * n * 2)) limit values vectors)) unreadable
 
--- the number that the first line decides, with no column beside it; or what its matrix gives, where that is 0
+-- the lines, unless the first line is refused: then its number and 0
 abbrev pub unlessRefused : ℕ → List ℕ → List ℕ
 unlessRefused number lines = cond (eqb number 0) lines (pairLine number 0)
 

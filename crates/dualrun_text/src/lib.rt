@@ -73,7 +73,7 @@ pub fn run(text: &[u8], out: &mut [u8]) -> usize
     }
 }
 
-// The first line of the text has come and is refused, or cannot be read: whatever follows, the output is that of the text as it is.
+// Whether the text decides the output, whatever follows it: its first line has come, and is refused 1, 3 or 4 or cannot be read.
 pub fn decided(text: &[u8]) -> bool
     ensures { λ r. ⌜ r ≡ decidedOf (now (text .entry)) ⌝ }
 {

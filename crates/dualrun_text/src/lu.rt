@@ -16,7 +16,9 @@ fn lines(out: &mut [u8], n: usize, answer: LuAnswer, factors: &[f64], order: &[u
     ensures { λ r. ⌜ page (now (out .exit)) r ≡ written (page (now (out .entry)) 0) (luLines n (luOutcome answer) (luColumn answer) (now (factors .entry)) (now (order .entry))) ⌝ }
 {
     let LuAnswer::Done { swaps } = answer else {
-        return write::pair(out, 0, answer.number() as usize, answer.column());
+        let number = answer.number() as usize;
+        let column = answer.column();
+        return write::pair(out, 0, number, column);
     };
     let first = write::pair(out, 0, 0, swaps);
     let second = write::order(out, first, order);

@@ -152,7 +152,7 @@ pub(crate) fn request(text: &[u8]) -> Request
     Request::Unreadable
 }
 
-// The first line has come: a newline, or as many bytes as no longer line has that can be read.
+// The first line has come: a newline, or as many bytes as the longest line has that can be read.
 pub(crate) fn has_line(text: &[u8]) -> bool
     ensures { λ r. ⌜ r ≡ hasLine (now (text .entry)) ⌝ }
 {

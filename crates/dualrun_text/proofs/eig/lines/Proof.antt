@@ -1,4 +1,4 @@
--- `dualrun_text::eig::lines` meets its contract. Assumes nothing.
+-- `dualrun_text::eig::lines` meets its contract: a refusal by its number, else the three parts one after the other. Assumes nothing.
 use Prim.Native.Nat.{ℕ, _-_, _*_}
 use mathlib.Core.Path.{ap, _∙_}
 use denote.Ref.{now}

@@ -1,4 +1,4 @@
--- `dualrun_text::lu::lines` meets its contract. Assumes nothing.
+-- `dualrun_text::lu::lines` meets its contract: a refusal by its number and column, else the three parts one after the other. Assumes nothing.
 use Prim.Native.Nat.{_-_, _*_}
 use mathlib.Core.Path.{ap, _∙_}
 use denote.Ref.{now}
@@ -21,8 +21,8 @@ enum-told c = search needs
 number-requires : tie.Need-number-requires
 number-requires c κs = search needs
 
-cast-pair : tie.Need-cast-pair
-cast-pair c = search needs
+cast-number : tie.Need-cast-number
+cast-number c = search needs
 
 column-requires : tie.Need-column-requires
 column-requires c κs = search needs
@@ -38,7 +38,7 @@ returns c =
     let s = c .before .before .before .before .before .before .before .before .before .before .before .args in
     c .before .before .pair .ensures
     ∙ ap (written (page (now (s .out)) 0))
-    ((λ i. pairLine (c .before .before .before .before .number .ensures i) (c .before .before .before .column .ensures i))
+    ((λ i. pairLine (c .before .before .before .before .before .number .ensures i) (c .before .before .before .before .column .ensures i))
     ∙ lu-refused (s .n) (now (s .factors)) (now (s .order)) (s .answer) _ _ (c .before .before .before .before .before .before .enum-told .given .1))
 
 pair-requires-2 : tie.Need-pair-requires-2
@@ -72,7 +72,7 @@ lines-spec =
     enum-known-answer
     enum-told
     number-requires
-    cast-pair
+    cast-number
     column-requires
     pair-requires
     same-length
