@@ -18,7 +18,7 @@ use Rattle.dualrun_text.specs.Decided.{noNewline}
 use Rattle.dualrun_text.proofs.Every.{every-at}
 use Rattle.dualrun_text.proofs.Digits.{digit-run-most}
 use Rattle.dualrun_text.proofs.FirstLine.{number-end}
-use Rattle.dualrun_text.proofs.Newline.{Clear, clear-none, clear-fewer, clear-more, clear-text, digit-clear, run-clear, number-clear}
+use Rattle.dualrun_text.proofs.Newline.{Clear, clear-fewer, clear-more, clear-text, digit-clear, run-clear, number-clear}
 
 -- ---- the two words have no newline, nor has a text where it begins with one
 lu-clear : noNewline luWord ≡ true
@@ -56,7 +56,7 @@ module _ (s t : List ℕ) (same : (i : ℕ) → i < 24 → Clear t i → byteAt 
       ∙ by (isDigit 10 (byteAt t p)) refl (run-same d (p + 1) (omega arith))
     where
       by : (b : Bool) → isDigit 10 (byteAt t p) ≡ b → (Clear t (p + 1) → digitRun 10 d s (p + 1) ≡ digitRun 10 d t (p + 1)) → cond b (suc (digitRun 10 d s (p + 1))) 0 ≡ cond b (suc (digitRun 10 d t (p + 1))) 0
-      by true e more = ap suc (more (clear-more t p c (digit-clear t (byteAt t p) e)))
+      by true e more = ap suc (more (clear-more t p c (digit-clear (byteAt t p) e)))
       by false e more = refl
 
   spelled-same : (p k : ℕ) → p + k ≤ 24 → Clear t (p + k) → numberAt 10 s p k ≡ numberAt 10 t p k

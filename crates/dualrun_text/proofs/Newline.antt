@@ -7,9 +7,8 @@ use native.Mathlib.Omega.{arith}
 use lib.Dec.{leb, ltb, eqb}
 use lib.ListN.{length}
 use borrow.Author.Tests.{le-leb, lt-leb, ltb-true, ltb-false, eq-eqb, ne-eqb, eqb-false, not-true}
-use Rattle.dualrun_text.specs.declared.Number.{Number}
 use Rattle.dualrun_text.specs.declared.Number.the-variants.{Is, Not}
-use Rattle.dualrun_text.specs.Digits.{byteAt, every, isDigit, digitValue, digitRun, numberAt}
+use Rattle.dualrun_text.specs.Digits.{byteAt, isDigit, digitValue, digitRun, numberAt}
 use Rattle.dualrun_text.specs.Request.{numberFrom}
 use Rattle.dualrun_text.specs.Decided.{noNewline, hasLine}
 use Rattle.dualrun_text.proofs.Every.{every-true, every-false, every-at}
@@ -18,6 +17,11 @@ use Rattle.dualrun_text.proofs.FirstLine.{endOf}
 -- no newline stands before p
 abbrev pub Clear : List ℕ → ℕ → Type 0
 Clear t p = (j : ℕ) → j < p → byteAt t j ≡ 10 → ⊥
+
+-- a digit is no newline
+pub digit-clear : (b : ℕ) → isDigit 10 b ≡ true → b ≡ 10 → ⊥
+unfolding digitValue
+digit-clear b d e = true≢false (sym d ∙ ap (isDigit 10) e)
 
 module _ (t : List ℕ) where
   pub clear-none : Clear t 0
@@ -42,11 +46,7 @@ module _ (t : List ℕ) where
   unfolding noNewline
   text-clear c = every-true (λ i. not (eqb (byteAt t i) 10)) (length t) (λ k lt. ap not (ne-eqb (byteAt t k) 10 (c k lt)))
 
-  -- a digit is no newline, nor is any of a run of them
-  pub digit-clear : (b : ℕ) → isDigit 10 b ≡ true → b ≡ 10 → ⊥
-  unfolding digitValue
-  digit-clear b d e = true≢false (sym d ∙ ap (isDigit 10) e)
-
+  -- a run of digits has none
   pub run-clear : (d p : ℕ) → Clear t p → Clear t (p + digitRun 10 d t p)
   unfolding digitRun
   run-clear zero p c = clear-fewer (p + 0) c (omega arith)

@@ -1,5 +1,5 @@
 -- `dualrun_text::lu::command` meets its contract: a refusal of the first line is printed; else n is at most 32, and the matrix fits its place. Assumes nothing.
-use Prim.Native.Nat.{_-_, _*_}
+use Prim.Native.Nat.{_*_}
 use mathlib.Core.Path.{sym, ap, _∙_}
 use denote.Ref.{now}
 use native.Mathlib.Omega.{arith}

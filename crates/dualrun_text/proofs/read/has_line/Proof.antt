@@ -1,11 +1,8 @@
 -- `dualrun_text::read::has_line` meets its contract. The bytes passed are no newline. Assumes nothing.
 use Prim.Native.Nat.{ℕ, _-_, _≤_, _<_}
-use mathlib.Core.Path.{_≡_, sym, ap, _∙_}
-use mathlib.Core.Bool.{Bool, true, false, not}
-use lib.Dec.{eqb}
+use mathlib.Core.Path.{_≡_}
 use lib.ListN.{length}
 use denote.Ref.{now}
-use borrow.Author.Tests.{eq-eqb, ne-eqb}
 use borrow.Author.Count.{below-more}
 use native.Mathlib.Omega.{arith}
 use Rattle.dualrun_text.specs.Digits.{byteAt}
