@@ -1,7 +1,13 @@
 // What the five record types share: their operations, their layout in flat floats and counted loops (see specs/), and document 01's
-// numbers for refusals.
+// numbers for refusals with the limits that they are given at.
 
-// n above 32.
+// The largest n of a matrix.
+pub const LARGEST_N: usize = 32;
+
+// The largest limit of sweeps.
+pub const LARGEST_LIMIT: usize = 1000;
+
+// n above `LARGEST_N`.
 pub const TOO_LARGE: u32 = 1;
 
 // A lent length is not the one wanted.
@@ -10,7 +16,7 @@ pub const WRONG_LENGTH: u32 = 2;
 // Jacobi with n = 0.
 pub const EMPTY: u32 = 3;
 
-// A sweep limit above 1,000.
+// A sweep limit above `LARGEST_LIMIT`.
 pub const LIMIT_TOO_LARGE: u32 = 4;
 
 // A powi exponent outside -1,024..1,024.
@@ -24,3 +30,6 @@ pub const NOT_AN_ORDER: u32 = 7;
 
 // A determinant's swap count does not fit the order.
 pub const WRONG_SWAPS: u32 = 8;
+
+// A text that `dualrun` cannot read.
+pub const UNREADABLE: u32 = 9;

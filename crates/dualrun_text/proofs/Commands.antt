@@ -1,18 +1,20 @@
 -- The two commands, case by case. Assumes nothing.
-use Prim.Native.Nat.{ℕ, zero, suc, _*_, _≤_, _<_}
+use Prim.Native.Nat.{ℕ, zero, suc, _*_, _≤_}
 use mathlib.Core.Path.{_≡_, refl, sym, ap, _∙_}
-use mathlib.Core.Bool.{true, false}
+use mathlib.Core.Bool.{Bool, true, false, cond}
 use mathlib.Core.List.{List, _∷_, _++_}
 use native.Mathlib.Nat.{mul-le-mul-left, mul-le-mul-right, le-trans}
 use native.Mathlib.Omega.{arith}
+use lib.Dec.{ltb, eqb}
 use lib.ListN.{length, take, replicate}
 use lib.Ieee.{Float}
-use borrow.Author.Tests.{lt-ltb, le-ltb, eq-eqb, ne-eqb}
+use borrow.Author.Tests.{ltb-false, eqb-true, eq-eqb, ne-eqb}
 use Rattle.real.specs.Operations as float
 use Rattle.algebra.specs.Outcome.{numberOf}
 use Rattle.dual.specs.Rules.{dualAlgebra, dualLayout}
 use Rattle.matrices.specs.Entries.{LuLeft, luLeft}
 use Rattle.matrices.specs.Answers.{luOutcome, luColumn}
+use Rattle.matrices.proofs.Answers.{passed}
 use Rattle.matrices.specs.declared.LuAnswer.{LuAnswer}
 use Rattle.matrices.specs.declared.LuAnswer.the-variants as lu
 use Rattle.jacobi.specs.Entry.{JacobiLeft, jacobiLeft}
@@ -20,10 +22,10 @@ use Rattle.jacobi.specs.Answer.{outcome}
 use Rattle.jacobi.specs.declared.JacobiAnswer.{JacobiAnswer}
 use Rattle.jacobi.specs.declared.JacobiAnswer.the-variants as jacobi
 use Rattle.dualrun_text.specs.declared.Request.{Request}
-use Rattle.dualrun_text.specs.Request.{requestOf}
+use Rattle.dualrun_text.specs.Request.{requestOf, luLineRefusal, eigLineRefusal}
 use Rattle.dualrun_text.specs.Body.{isBody, floatsFrom}
 use Rattle.dualrun_text.specs.Lines.{pairLine, recordLines, orderLine}
-use Rattle.dualrun_text.specs.Output.{unreadable, luLines, luPrinted, eigLines, eigPrinted, luOfLines, eigOfLines, luOutput, eigOutput, outputFor, outputOf}
+use Rattle.dualrun_text.specs.Output.{unreadable, unlessRefused, luLines, luPrinted, eigLines, eigPrinted, luOfLines, eigOfLines, luOutput, eigOutput, outputFor, outputOf}
 
 pub square : (n : ℕ) → n ≤ 32 → n * n ≤ 1024
 square n h = le-trans (mul-le-mul-left n h) (mul-le-mul-right 32 h)
@@ -32,6 +34,39 @@ pub take-replicate : {A : Type 0} (k n : ℕ) (x : A) → k ≤ n → take k (re
 take-replicate zero n x h = refl
 take-replicate (suc k) zero x h = absurd (omega arith)
 take-replicate {A} (suc k) (suc n) x h = ap (λ (l : List A). x ∷ l) (take-replicate k n x (omega arith))
+
+-- ---- what the first line decides, or not
+pub refused-line : (number k : ℕ) (lines : List ℕ) → number ≡ k → (number ≡ 0 → ⊥) → pairLine number 0 ≡ unlessRefused k lines
+refused-line number k lines e h = ap (λ (j : ℕ). pairLine j 0) e ∙ ap (λ (b : Bool). cond b lines (pairLine k 0)) (sym (ne-eqb k 0 (λ z. h (e ∙ z))))
+
+pub not-refused : (k : ℕ) (lines : List ℕ) → k ≡ 0 → lines ≡ unlessRefused k lines
+not-refused k lines e = ap (λ (b : Bool). cond b lines (pairLine k 0)) (sym (eq-eqb k 0 e))
+
+-- the matrices count only where it is not refused
+pub unless-same : (k : ℕ) (x y : List ℕ) → (k ≡ 0 → x ≡ y) → unlessRefused k x ≡ unlessRefused k y
+unless-same k x y h = by (eqb k 0) refl
+  where
+    by : (b : Bool) → eqb k 0 ≡ b → cond b x (pairLine k 0) ≡ cond b y (pairLine k 0)
+    by true e = h (eqb-true k 0 e)
+    by false e = refl
+
+-- n is small where the first line is not refused
+pub lu-few : (n : ℕ) → luLineRefusal n ≡ 0 → n ≤ 32
+lu-few n e = ltb-false 32 n (passed (ltb 32 n) 0 0 e .0)
+
+pub eig-few : (n limit : ℕ) → eigLineRefusal n limit ≡ 0 → n ≤ 32
+eig-few n limit e = ltb-false 32 n (passed (ltb 32 n) 0 _ e .0)
+
+-- and so is its matrix
+pub record Fits (n : ℕ) : Type 0 where
+  pub few : n ≤ 32
+  pub square : n * n ≤ 1024
+
+pub lu-fits : (n number : ℕ) → number ≡ luLineRefusal n → number ≡ 0 → Fits n
+lu-fits n number e z = let f = lu-few n (sym e ∙ z) in record { few = f; square = square n f }
+
+pub eig-fits : (n limit number : ℕ) → number ≡ eigLineRefusal n limit → number ≡ 0 → Fits n
+eig-fits n limit number e z = let f = eig-few n limit (sym e ∙ z) in record { few = f; square = square n f }
 
 -- ---- what is printed of an answer
 module _ (n : ℕ) (factors : List Float) (order : List ℕ) (answer : LuAnswer) where
@@ -70,32 +105,23 @@ module _ (text : List ℕ) (n start : ℕ) where
   eig-read limit m values vectors left e f g = rw e (ap (eigPrinted n) (g ∙ ap (λ (x : List Float). jacobiLeft dualAlgebra dualLayout n x limit values vectors) f))
 
   -- ---- what the first line decides
-  pub lu-large : 32 < n → pairLine 1 0 ≡ luOutput text n start
-  unfolding luOutput
-  lu-large h = rw (lt-ltb 32 n h)
+  module _ (number : ℕ) (told : number ≡ luLineRefusal n) where
+    pub lu-line-refused : (number ≡ 0 → ⊥) → pairLine number 0 ≡ luOutput text n start
+    unfolding luOutput
+    lu-line-refused h = refused-line number (luLineRefusal n) _ told h
 
-  pub lu-goes-on : n ≤ 32 → luOfLines text n start (replicate (n * n * 2) float.zero) (replicate n 0) ≡ luOutput text n start
-  unfolding luOutput
-  lu-goes-on h = rw (le-ltb 32 n h)
+    pub lu-goes-on : number ≡ 0 → luOfLines text n start (replicate (n * n * 2) float.zero) (replicate n 0) ≡ luOutput text n start
+    unfolding luOutput
+    lu-goes-on h = not-refused (luLineRefusal n) _ (sym told ∙ h)
 
-  module _ (limit : ℕ) where
-    pub eig-large : 32 < n → pairLine 1 0 ≡ eigOutput text n limit start
+  module _ (limit number : ℕ) (told : number ≡ eigLineRefusal n limit) where
+    pub eig-line-refused : (number ≡ 0 → ⊥) → pairLine number 0 ≡ eigOutput text n limit start
     unfolding eigOutput
-    eig-large h = rw (lt-ltb 32 n h)
+    eig-line-refused h = refused-line number (eigLineRefusal n limit) _ told h
 
-    module _ (few : n ≤ 32) where
-      pub eig-empty : n ≡ 0 → pairLine 3 0 ≡ eigOutput text n limit start
-      unfolding eigOutput
-      eig-empty h = rw (le-ltb 32 n few, eq-eqb n 0 h)
-
-      module _ (some : n ≡ 0 → ⊥) where
-        pub eig-limit : 1000 < limit → pairLine 4 0 ≡ eigOutput text n limit start
-        unfolding eigOutput
-        eig-limit h = rw (le-ltb 32 n few, ne-eqb n 0 some, lt-ltb 1000 limit h)
-
-        pub eig-goes-on : limit ≤ 1000 → eigOfLines text n limit start (replicate (n * 2) float.zero) (replicate (n * n * 2) float.zero) ≡ eigOutput text n limit start
-        unfolding eigOutput
-        eig-goes-on h = rw (le-ltb 32 n few, ne-eqb n 0 some, le-ltb 1000 limit h)
+    pub eig-goes-on : number ≡ 0 → eigOfLines text n limit start (replicate (n * 2) float.zero) (replicate (n * n * 2) float.zero) ≡ eigOutput text n limit start
+    unfolding eigOutput
+    eig-goes-on h = not-refused (eigLineRefusal n limit) _ (sym told ∙ h)
 
 -- ---- the request
 pub output-for : (text : List ℕ) (r : Request) → requestOf text ≡ r → outputFor text r ≡ outputOf text

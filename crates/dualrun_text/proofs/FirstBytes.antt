@@ -1,4 +1,5 @@
--- A request is decided by the text's first 24 bytes: the longest first line is "eig ", nine digits, a space, nine digits and a newline. Assumes nothing.
+-- A request is decided by the text's first line, and by its first 24 bytes: the longest first line that can be read is "eig ", nine digits, a space, nine
+-- digits and a newline. Assumes nothing.
 use Prim.Native.Nat.{ℕ, zero, suc, _+_, _*_, _<_, _≤_}
 use mathlib.Core.Path.{_≡_, refl, sym, ap, _∙_}
 use mathlib.Core.Bool.{Bool, true, false, cond, _&&_}
@@ -6,70 +7,114 @@ use mathlib.Core.List.{List}
 use native.Mathlib.Omega.{arith}
 use lib.Dec.{ltb, eqb}
 use lib.ListN.{length}
+use borrow.Author.Tests.{eqb-true, ne-eqb}
 use Rattle.dualrun_text.specs.declared.Number.{Number}
 use Rattle.dualrun_text.specs.declared.Number.the-variants.{Is, Not}
 use Rattle.dualrun_text.specs.declared.Request.{Request}
 use Rattle.dualrun_text.specs.declared.Request.the-variants.{Lu, Eig, Unreadable}
 use Rattle.dualrun_text.specs.Digits.{byteAt, every, startsWith, isDigit, digitValue, digitRun, numberAt}
 use Rattle.dualrun_text.specs.Request.{numberFrom, after, numberThen, luLine, limitLine, eigLine, luWord, eigWord, requestOf}
+use Rattle.dualrun_text.specs.Decided.{noNewline}
+use Rattle.dualrun_text.proofs.Every.{every-at}
 use Rattle.dualrun_text.proofs.Digits.{digit-run-most}
 use Rattle.dualrun_text.proofs.FirstLine.{number-end}
+use Rattle.dualrun_text.proofs.Newline.{Clear, clear-fewer, clear-more, clear-text, digit-clear, run-clear, number-clear}
 
-every-same : (p q : ℕ → Bool) (n : ℕ) → ((k : ℕ) → k < n → p k ≡ q k) → every p n ≡ every q n
-unfolding every
-every-same p q zero h = refl
-every-same p q (suc n) h = ap (λ (b : Bool). b && p n) (every-same p q n (λ k lt. h k (omega arith))) ∙ ap (λ (b : Bool). every q n && b) (h n (omega arith))
+-- ---- the two words have no newline, nor has a text where it begins with one
+lu-clear : noNewline luWord ≡ true
+unfolding noNewline every
+lu-clear = refl
 
--- two texts with the same first 24 bytes
-module _ (s t : List ℕ) (same : (i : ℕ) → i < 24 → byteAt s i ≡ byteAt t i) where
-  starts-same : (word : List ℕ) → length word ≤ 24 → startsWith word s ≡ startsWith word t
-  unfolding startsWith
-  starts-same word h = every-same (λ i. eqb (byteAt s i) (byteAt word i)) (λ i. eqb (byteAt t i) (byteAt word i)) (length word) (λ k lt. ap (λ (b : ℕ). eqb b (byteAt word k)) (same k (omega arith)))
+eig-clear : noNewline eigWord ≡ true
+unfolding noNewline every
+eig-clear = refl
 
-  run-same : (d p : ℕ) → p + d ≤ 24 → digitRun 10 d s p ≡ digitRun 10 d t p
+begun : (t word : List ℕ) (n : ℕ) → Clear word n → every (λ i. eqb (byteAt t i) (byteAt word i)) n ≡ true → Clear t n
+begun t word n c e j lt z = c j lt (sym (eqb-true _ _ (every-at (λ i. eqb (byteAt t i) (byteAt word i)) n j e lt)) ∙ z)
+
+-- ---- two texts whose bytes are the same up to the first newline of the second, or to the 24th
+module _ (s t : List ℕ) (same : (i : ℕ) → i < 24 → Clear t i → byteAt s i ≡ byteAt t i) where
+  starts-same : (word : List ℕ) → length word ≤ 24 → noNewline word ≡ true → startsWith word s ≡ startsWith word t
+  unfolding startsWith every
+  starts-same word h none = go (length word) h (clear-text word none)
+    where
+      go : (n : ℕ) → n ≤ 24 → Clear word n → every (λ i. eqb (byteAt s i) (byteAt word i)) n ≡ every (λ i. eqb (byteAt t i) (byteAt word i)) n
+      go zero h c = refl
+      go (suc n) h c =
+          ap (λ (b : Bool). b && eqb (byteAt s n) (byteAt word n)) (go n (omega arith) (clear-fewer word n c (omega arith)))
+          ∙ by (every (λ i. eqb (byteAt t i) (byteAt word i)) n) refl
+        where
+          by : (b : Bool) → every (λ i. eqb (byteAt t i) (byteAt word i)) n ≡ b → (b && eqb (byteAt s n) (byteAt word n)) ≡ (b && eqb (byteAt t n) (byteAt word n))
+          by true e = ap (λ (x : ℕ). eqb x (byteAt word n)) (same n (omega arith) (begun t word n (clear-fewer word n c (omega arith)) e))
+          by false e = refl
+
+  run-same : (d p : ℕ) → p + d ≤ 24 → Clear t p → digitRun 10 d s p ≡ digitRun 10 d t p
   unfolding digitRun
-  run-same zero p h = refl
-  run-same (suc d) p h =
-      ap (λ (b : ℕ). cond (isDigit 10 b) (suc (digitRun 10 d s (p + 1))) 0) (same p (omega arith))
-      ∙ ap (λ (r : ℕ). cond (isDigit 10 (byteAt t p)) (suc r) 0) (run-same d (p + 1) (omega arith))
+  run-same zero p h c = refl
+  run-same (suc d) p h c =
+      ap (λ (b : ℕ). cond (isDigit 10 b) (suc (digitRun 10 d s (p + 1))) 0) (same p (omega arith) c)
+      ∙ by (isDigit 10 (byteAt t p)) refl (run-same d (p + 1) (omega arith))
+    where
+      by : (b : Bool) → isDigit 10 (byteAt t p) ≡ b → (Clear t (p + 1) → digitRun 10 d s (p + 1) ≡ digitRun 10 d t (p + 1)) → cond b (suc (digitRun 10 d s (p + 1))) 0 ≡ cond b (suc (digitRun 10 d t (p + 1))) 0
+      by true e more = ap suc (more (clear-more t p c (digit-clear (byteAt t p) e)))
+      by false e more = refl
 
-  spelled-same : (p k : ℕ) → p + k ≤ 24 → numberAt 10 s p k ≡ numberAt 10 t p k
+  spelled-same : (p k : ℕ) → p + k ≤ 24 → Clear t (p + k) → numberAt 10 s p k ≡ numberAt 10 t p k
   unfolding numberAt
-  spelled-same p zero h = refl
-  spelled-same p (suc k) h =
-      ap (λ (v : ℕ). v * 10 + digitValue (byteAt s (p + k))) (spelled-same p k (omega arith))
-      ∙ ap (λ (b : ℕ). numberAt 10 t p k * 10 + digitValue b) (same (p + k) (omega arith))
+  spelled-same p zero h c = refl
+  spelled-same p (suc k) h c =
+      let d = clear-fewer t (p + k) c (omega arith) in
+      ap (λ (v : ℕ). v * 10 + digitValue (byteAt s (p + k))) (spelled-same p k (omega arith) d)
+      ∙ ap (λ (b : ℕ). numberAt 10 t p k * 10 + digitValue b) (same (p + k) (omega arith) d)
 
-  number-same : (p : ℕ) → p + 10 ≤ 24 → numberFrom s p ≡ numberFrom t p
+  number-same : (p : ℕ) → p + 10 ≤ 24 → Clear t p → numberFrom s p ≡ numberFrom t p
   unfolding numberFrom
-  number-same p h =
-      ap (λ (k : ℕ). cond (ltb 0 k && ltb k 10) (Is (numberAt 10 s p k) (p + k)) Not) (run-same 10 p h)
+  number-same p h c =
+      ap (λ (k : ℕ). cond (ltb 0 k && ltb k 10) (Is (numberAt 10 s p k) (p + k)) Not) (run-same 10 p h c)
       ∙ (let m = digit-run-most 10 t 10 p in
-      ap (λ (v : ℕ). cond (ltb 0 (digitRun 10 10 t p) && ltb (digitRun 10 10 t p) 10) (Is v (p + digitRun 10 10 t p)) Not) (spelled-same p (digitRun 10 10 t p) (omega arith)))
+      ap (λ (v : ℕ). cond (ltb 0 (digitRun 10 10 t p) && ltb (digitRun 10 10 t p) 10) (Is v (p + digitRun 10 10 t p)) Not) (spelled-same p (digitRun 10 10 t p) (omega arith) (run-clear t 10 p c)))
 
-  module _ (p wanted : ℕ) (f g : ℕ → ℕ → Request) (h : p + 10 ≤ 24) (agree : (v e : ℕ) → e ≤ p + 9 → f v (e + 1) ≡ g v (e + 1)) where
+  module _ (p wanted : ℕ) (f g : ℕ → ℕ → Request) (h : p + 10 ≤ 24) (c : Clear t p) (agree : (v e : ℕ) → e ≤ p + 9 → Clear t e → byteAt t e ≡ wanted → f v (e + 1) ≡ g v (e + 1)) where
     after-same : (m : Number) → m ≡ numberFrom t p → after s wanted f m ≡ after t wanted g m
     after-same (Is v e) r =
         let k = number-end t p v e (sym r) in
-        ap (λ (b : ℕ). cond (eqb b wanted) (f v (e + 1)) Unreadable) (same e (omega arith))
-        ∙ ap (λ (q : Request). cond (eqb (byteAt t e) wanted) q Unreadable) (agree v e k)
+        let d = number-clear t p v e (sym r) c in
+        ap (λ (b : ℕ). cond (eqb b wanted) (f v (e + 1)) Unreadable) (same e (omega arith) d)
+        ∙ by k d (eqb (byteAt t e) wanted) refl
+      where
+        by : e ≤ p + 9 → Clear t e → (b : Bool) → eqb (byteAt t e) wanted ≡ b → cond b (f v (e + 1)) Unreadable ≡ cond b (g v (e + 1)) Unreadable
+        by k d true q = agree v e k d (eqb-true _ _ q)
+        by k d false q = refl
     after-same Not r = refl
 
     then-same : numberThen s p wanted f ≡ numberThen t p wanted g
     unfolding numberThen
-    then-same = ap (after s wanted f) (number-same p h) ∙ after-same (numberFrom t p) refl
+    then-same = ap (after s wanted f) (number-same p h c) ∙ after-same (numberFrom t p) refl
 
-  limit-same : (n p : ℕ) → p + 10 ≤ 24 → limitLine s n p ≡ limitLine t n p
-  limit-same n p h = then-same p 10 (Eig n) (Eig n) h (λ v e k. refl)
+  limit-same : (n p : ℕ) → p + 10 ≤ 24 → Clear t p → limitLine s n p ≡ limitLine t n p
+  limit-same n p h c = then-same p 10 (Eig n) (Eig n) h c (λ v e k d q. refl)
+
+  begun-clear : (word : List ℕ) → noNewline word ≡ true → startsWith word t ≡ true → Clear t (length word)
+  unfolding startsWith
+  begun-clear word none e = begun t word (length word) (clear-text word none) e
+
+  lu-same : (b : Bool) → startsWith luWord t ≡ b → (q : Request) → cond b (luLine s) q ≡ cond b (luLine t) q
+  lu-same true e q = then-same 3 10 Lu Lu (omega arith) (begun-clear luWord lu-clear e) (λ v e k d q. refl)
+  lu-same false e q = refl
+
+  eig-same : (b : Bool) → startsWith eigWord t ≡ b → (q : Request) → cond b (eigLine s) q ≡ cond b (eigLine t) q
+  eig-same true e q =
+      then-same 4 32 (limitLine s) (limitLine t) (omega arith) (begun-clear eigWord eig-clear e)
+      (λ v e k d q. limit-same v (e + 1) (omega arith) (clear-more t e d (λ z. let y : _≡_ {A = ℕ} 10 32 = sym z ∙ q in omega arith)))
+  eig-same false e q = refl
 
   pub request-same : requestOf s ≡ requestOf t
   unfolding requestOf
   request-same =
-      ap (λ (b : Bool). cond b (luLine s) (cond (startsWith eigWord s) (eigLine s) Unreadable)) (starts-same luWord (omega arith))
-      ∙ ap (λ (q : Request). cond (startsWith luWord t) q (cond (startsWith eigWord s) (eigLine s) Unreadable)) (then-same 3 10 Lu Lu (omega arith) (λ v e k. refl))
-      ∙ ap (λ (b : Bool). cond (startsWith luWord t) (luLine t) (cond b (eigLine s) Unreadable)) (starts-same eigWord (omega arith))
-      ∙ ap (λ (q : Request). cond (startsWith luWord t) (luLine t) (cond (startsWith eigWord t) q Unreadable))
-      (then-same 4 32 (limitLine s) (limitLine t) (omega arith) (λ v e k. limit-same v (e + 1) (omega arith)))
+      ap (λ (b : Bool). cond b (luLine s) (cond (startsWith eigWord s) (eigLine s) Unreadable)) (starts-same luWord (omega arith) lu-clear)
+      ∙ lu-same (startsWith luWord t) refl _
+      ∙ ap (λ (b : Bool). cond (startsWith luWord t) (luLine t) (cond b (eigLine s) Unreadable)) (starts-same eigWord (omega arith) eig-clear)
+      ∙ ap (λ (q : Request). cond (startsWith luWord t) (luLine t) q) (eig-same (startsWith eigWord t) refl Unreadable)
 
 -- ---- where the matrix starts
 abbrev pub startOf : Request → ℕ
@@ -99,3 +144,33 @@ module _ (t : List ℕ) where
       by true b = then-small 3 10 24 Lu (λ v e k. omega arith)
       by false true = then-small 4 32 24 (limitLine t) (λ v e k. then-small (e + 1) 10 24 (Eig v) (λ w d j. omega arith))
       by false false = omega arith
+
+  -- ---- no newline among the first 24 bytes: nothing can be read
+  module _ (none : Clear t 24) where
+    unended : (p : ℕ) (f : ℕ → ℕ → Request) → p + 10 ≤ 24 → numberThen t p 10 f ≡ Unreadable
+    unfolding numberThen
+    unended p f h = by (numberFrom t p) refl
+      where
+        by : (m : Number) → m ≡ numberFrom t p → after t 10 f m ≡ Unreadable
+        by (Is v e) r = let k = number-end t p v e (sym r) in ap (λ (b : Bool). cond b (f v (e + 1)) Unreadable) (ne-eqb (byteAt t e) 10 (none e (omega arith)))
+        by Not r = refl
+
+    -- either way
+    both : (b : Bool) (q : Request) → q ≡ Unreadable → cond b q Unreadable ≡ Unreadable
+    both true q e = e
+    both false q e = refl
+
+    eig-unended : eigLine t ≡ Unreadable
+    unfolding numberThen
+    eig-unended = by (numberFrom t 4) refl
+      where
+        by : (m : Number) → m ≡ numberFrom t 4 → after t 32 (limitLine t) m ≡ Unreadable
+        by (Is v e) r = let k = number-end t 4 v e (sym r) in both (eqb (byteAt t e) 32) (limitLine t v (e + 1)) (unended (e + 1) (Eig v) (omega arith))
+        by Not r = refl
+
+    pub no-line : requestOf t ≡ Unreadable
+    unfolding requestOf
+    no-line =
+        ap (λ (q : Request). cond (startsWith luWord t) q (cond (startsWith eigWord t) (eigLine t) Unreadable)) (unended 3 Lu (omega arith))
+        ∙ ap (λ (q : Request). cond (startsWith luWord t) Unreadable q) (both (startsWith eigWord t) (eigLine t) eig-unended)
+        ∙ both (startsWith luWord t) Unreadable refl

@@ -54,7 +54,7 @@ module _ (text : List ℕ) (p wanted : ℕ) (f : ℕ → ℕ → Request) (m : N
       ∙ ap (after text wanted f) (sym e ∙ read)
 
 -- where a number ends
-endOf : Number → ℕ
+abbrev pub endOf : Number → ℕ
 endOf (Is value end) = end
 endOf Not = 0
 
@@ -63,12 +63,11 @@ second true b e = e
 second false b e = absurd (true≢false (sym e))
 
 within : (p end k v : ℕ) (t : Bool) → (t ≡ true → k < 10) → endOf (cond t (Is v (p + k)) Not) ≡ end → end ≤ p + 9
-unfolding endOf
 within p end k v true h e = let g : k < 10 = h refl in omega arith
 within p end k v false h e = omega arith
 
 pub number-end : (text : List ℕ) (p value end : ℕ) → numberFrom text p ≡ Is value end → end ≤ p + 9
-unfolding numberFrom endOf
+unfolding numberFrom
 number-end text p value end e =
     let k = digitRun 10 10 text p in
     within p end k (numberAt 10 text p k) (ltb 0 k && ltb k 10) (λ t. ltb-true k 10 (second (ltb 0 k) (ltb k 10) t)) (ap endOf e)

@@ -3,6 +3,7 @@
 mod Every
 mod Digits
 mod FirstLine
+mod Newline
 mod FirstBytes
 mod Words
 -- writing
@@ -14,5 +15,7 @@ mod Commands
 pub mod ReadBack
 -- 65,536 bytes are enough to read and to write
 pub mod Whole
+-- the first line decides a refusal
+pub mod LineDecides
 -- the promise of `run` leaves one outcome
 mod OneAnswer

@@ -8,7 +8,7 @@ use lib.Dec.{ltb, eqb}
 use lib.ListN.{length, take, drop, getD, length-append, replicate}
 use lib.Seq.{take-all, getD-take, length-take-le, sets-eq}
 use lib.Ieee.{Float, binary64, toBits}
-use borrow.Author.Tests.{ltb-true, ltb-false}
+use borrow.Author.Tests.{ltb-true, ltb-false, eqb-true}
 use Rattle.io.specs.Digits.{digits}
 use Rattle.real.specs.Operations as float
 use Rattle.algebra.specs.Outcome.{Outcome, value, refused}
@@ -17,12 +17,12 @@ use Rattle.matrices.specs.Entries.{LuLeft, luLeft}
 use Rattle.jacobi.specs.Entry.{JacobiLeft, jacobiLeft}
 use Rattle.dualrun_text.specs.declared.Request.{Request}
 use Rattle.dualrun_text.specs.declared.Request.the-variants.{Lu, Eig, Unreadable}
-use Rattle.dualrun_text.specs.Request.{requestOf}
+use Rattle.dualrun_text.specs.Request.{requestOf, luLineRefusal, eigLineRefusal}
 use Rattle.dualrun_text.specs.Body.{isBody, floatsFrom}
 use Rattle.dualrun_text.specs.Page.{page, written}
 use Rattle.dualrun_text.specs.Lines.{places, decimalText, wordText, pairLine, recordLine, recordLines, entryText, entries, orderLine}
-use Rattle.dualrun_text.specs.Output.{luLines, luPrinted, eigLines, eigPrinted, luOfLines, eigOfLines, luOutput, eigOutput, outputFor, outputOf, unreadable}
-use Rattle.dualrun_text.proofs.Commands.{square}
+use Rattle.dualrun_text.specs.Output.{luLines, luPrinted, eigLines, eigPrinted, luOfLines, eigOfLines, luOutput, eigOutput, outputFor, outputOf, unreadable, unlessRefused}
+use Rattle.dualrun_text.proofs.Commands.{square, unless-same, lu-few, eig-few}
 use Rattle.dualrun_text.proofs.Page.{written-fits}
 use Rattle.dualrun_text.proofs.Words.{body-other-length}
 use Rattle.dualrun_text.proofs.FirstBytes.{request-same, startOf, start-small}
@@ -43,24 +43,17 @@ module _ (text : List ℕ) (n start : ℕ) (long : 65536 ≤ length text) (few :
   eig-long limit values vectors = rw no-body
 
 module _ (s t : List ℕ) (ls : 65536 ≤ length s) (lt : 65536 ≤ length t) where
-  lu-same : (n start : ℕ) (b : Bool) → ltb 32 n ≡ b → start ≤ 24 → luOutput s n start ≡ luOutput t n start
+  lu-same : (n start : ℕ) → start ≤ 24 → luOutput s n start ≡ luOutput t n start
   unfolding luOutput
-  lu-same n start true e h = rw e
-  lu-same n start false e h =
-      let f = ltb-false 32 n e in
-      ap (cond (ltb 32 n) (pairLine 1 0)) (lu-long s n start ls f h _ _ ∙ sym (lu-long t n start lt f h _ _))
+  lu-same n start h = unless-same (luLineRefusal n) _ _ (λ z. let f = lu-few n z in lu-long s n start ls f h _ _ ∙ sym (lu-long t n start lt f h _ _))
 
-  eig-same : (n limit start : ℕ) (b : Bool) → ltb 32 n ≡ b → start ≤ 24 → eigOutput s n limit start ≡ eigOutput t n limit start
+  eig-same : (n limit start : ℕ) → start ≤ 24 → eigOutput s n limit start ≡ eigOutput t n limit start
   unfolding eigOutput
-  eig-same n limit start true e h = rw e
-  eig-same n limit start false e h =
-      let f = ltb-false 32 n e in
-      ap (λ (l : List ℕ). cond (ltb 32 n) (pairLine 1 0) (cond (eqb n 0) (pairLine 3 0) (cond (ltb 1000 limit) (pairLine 4 0) l)))
-      (eig-long s n start ls f h limit _ _ ∙ sym (eig-long t n start lt f h limit _ _))
+  eig-same n limit start h = unless-same (eigLineRefusal n limit) _ _ (λ z. let f = eig-few n limit z in eig-long s n start ls f h limit _ _ ∙ sym (eig-long t n start lt f h limit _ _))
 
   output-same : (r : Request) → startOf r ≤ 24 → outputFor s r ≡ outputFor t r
-  output-same (Lu n start) h = lu-same n start (ltb 32 n) refl h
-  output-same (Eig n limit start) h = eig-same n limit start (ltb 32 n) refl h
+  output-same (Lu n start) h = lu-same n start h
+  output-same (Eig n limit start) h = eig-same n limit start h
   output-same Unreadable h = refl
 
 pub read-whole : (text : List ℕ) → outputOf (take 65536 text) ≡ outputOf text
@@ -72,7 +65,7 @@ read-whole text = by (ltb 65536 (length text)) refl
     by true e =
         let long : 65536 < length text = ltb-true 65536 (length text) e in
         let cut : length (take 65536 text) ≡ 65536 = length-take-le 65536 text (omega arith) in
-        ap (outputFor (take 65536 text)) (request-same (take 65536 text) text (λ i h. getD-take 65536 text i 0 (omega arith)))
+        ap (outputFor (take 65536 text)) (request-same (take 65536 text) text (λ i h c. getD-take 65536 text i 0 (omega arith)))
         ∙ output-same (take 65536 text) text (omega arith) (omega arith) (requestOf text) (start-small text)
 
 -- ---- no output is longer than 65,536 bytes
@@ -140,10 +133,13 @@ either : (b : Bool) (x y : List ℕ) → length x ≤ 65536 → length y ≤ 655
 either true x y h g = h
 either false x y h g = g
 
--- the second only where the test is false
-unless : (b : Bool) (x y : List ℕ) → length x ≤ 65536 → (b ≡ false → length y ≤ 65536) → length (cond b x y) ≤ 65536
-unless true x y h g = h
-unless false x y h g = g refl
+-- what is printed unless the first line is refused
+unless-most : (k : ℕ) (x : List ℕ) → (k ≡ 0 → length x ≤ 65536) → length (unlessRefused k x) ≤ 65536
+unless-most k x h = by (eqb k 0) refl
+  where
+    by : (b : Bool) → eqb k 0 ≡ b → length (cond b x (pairLine k 0)) ≤ 65536
+    by true e = h (eqb-true k 0 e)
+    by false e = omega (arith, length-pair k 0)
 
 lu-printed-most : (n : ℕ) (left : LuLeft) → n ≤ 32 → length (luPrinted n left) ≤ 65536
 lu-printed-most n left h = lu-lines-most n (left .answer) (left .column) (left .factors) (left .order) h
@@ -154,16 +150,14 @@ eig-printed-most n left h = eig-lines-most n (left .answer) (left .values) (left
 lu-most : (text : List ℕ) (n start : ℕ) → length (luOutput text n start) ≤ 65536
 unfolding luOutput luOfLines
 lu-most text n start =
-    unless (ltb 32 n) (pairLine 1 0) _ (omega (arith, length-pair 1 0))
-    (λ e. either (isBody text start (n * n * 2)) _ unreadable (lu-printed-most n (luLeft dualAlgebra dualLayout n (floatsFrom text start (n * n * 2)) (replicate (n * n * 2) float.zero) (replicate n 0)) (ltb-false 32 n e)) (omega arith))
+    unless-most (luLineRefusal n) _
+    (λ e. either (isBody text start (n * n * 2)) _ unreadable (lu-printed-most n (luLeft dualAlgebra dualLayout n (floatsFrom text start (n * n * 2)) (replicate (n * n * 2) float.zero) (replicate n 0)) (lu-few n e)) (omega arith))
 
 eig-most : (text : List ℕ) (n limit start : ℕ) → length (eigOutput text n limit start) ≤ 65536
 unfolding eigOutput eigOfLines
 eig-most text n limit start =
-    unless (ltb 32 n) (pairLine 1 0) _ (omega (arith, length-pair 1 0))
-    (λ e. either (eqb n 0) (pairLine 3 0) _ (omega (arith, length-pair 3 0))
-    (either (ltb 1000 limit) (pairLine 4 0) _ (omega (arith, length-pair 4 0))
-    (either (isBody text start (n * n * 2)) _ unreadable (eig-printed-most n (jacobiLeft dualAlgebra dualLayout n (floatsFrom text start (n * n * 2)) limit (replicate (n * 2) float.zero) (replicate (n * n * 2) float.zero)) (ltb-false 32 n e)) (omega arith))))
+    unless-most (eigLineRefusal n limit) _
+    (λ e. either (isBody text start (n * n * 2)) _ unreadable (eig-printed-most n (jacobiLeft dualAlgebra dualLayout n (floatsFrom text start (n * n * 2)) limit (replicate (n * 2) float.zero) (replicate (n * n * 2) float.zero)) (eig-few n limit e)) (omega arith))
 
 output-most : (text : List ℕ) (r : Request) → length (outputFor text r) ≤ 65536
 output-most text (Lu n start) = lu-most text n start

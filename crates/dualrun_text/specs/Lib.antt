@@ -5,3 +5,4 @@ pub mod Body
 pub mod Page
 pub mod Lines
 pub mod Output
+pub mod Decided

@@ -2,7 +2,7 @@
 use Prim.Native.Nat.{ℕ, _*_}
 use mathlib.Core.Bool.{cond}
 use mathlib.Core.List.{List, [], _∷_, _++_}
-use lib.Dec.{ltb, eqb}
+use lib.Dec.{eqb}
 use lib.ListN.{replicate}
 use lib.Ieee.{Float}
 use Rattle.real.specs.Operations.{zero}
@@ -12,7 +12,7 @@ use Rattle.matrices.specs.Entries.{LuLeft, luLeft}
 use Rattle.jacobi.specs.Entry.{JacobiLeft, jacobiLeft}
 use Rattle.dualrun_text.specs.declared.Request.{Request}
 use Rattle.dualrun_text.specs.declared.Request.the-variants.{Lu, Eig, Unreadable}
-use Rattle.dualrun_text.specs.Request.{requestOf}
+use Rattle.dualrun_text.specs.Request.{requestOf, luLineRefusal, eigLineRefusal}
 use Rattle.dualrun_text.specs.Body.{isBody, floatsFrom}
 use Rattle.dualrun_text.specs.Lines.{pairLine, recordLines, orderLine}
 
@@ -48,17 +48,17 @@ unfoldable pub eigOfLines : List ℕ → ℕ → ℕ → ℕ → List Float → 
 eigOfLines text n limit start values vectors =
     cond (isBody text start (n * n * 2)) (eigPrinted n (jacobiLeft dualAlgebra dualLayout n (floatsFrom text start (n * n * 2)) limit values vectors)) unreadable
 
--- `lu N`: 1 is decided from the first line
-unfoldable pub luOutput : List ℕ → ℕ → ℕ → List ℕ
-luOutput text n start = cond (ltb 32 n) (pairLine 1 0) (luOfLines text n start (replicate (n * n * 2) zero) (replicate n 0))
+-- the lines, unless the first line is refused: then its number and 0
+abbrev pub unlessRefused : ℕ → List ℕ → List ℕ
+unlessRefused number lines = cond (eqb number 0) lines (pairLine number 0)
 
--- `eig N S`: 1, 3 and 4 are decided from the first line
+-- `lu N`
+unfoldable pub luOutput : List ℕ → ℕ → ℕ → List ℕ
+luOutput text n start = unlessRefused (luLineRefusal n) (luOfLines text n start (replicate (n * n * 2) zero) (replicate n 0))
+
+-- `eig N S`
 unfoldable pub eigOutput : List ℕ → ℕ → ℕ → ℕ → List ℕ
-eigOutput text n limit start =
-    cond (ltb 32 n) (pairLine 1 0)
-    (cond (eqb n 0) (pairLine 3 0)
-    (cond (ltb 1000 limit) (pairLine 4 0)
-    (eigOfLines text n limit start (replicate (n * 2) zero) (replicate (n * n * 2) zero))))
+eigOutput text n limit start = unlessRefused (eigLineRefusal n limit) (eigOfLines text n limit start (replicate (n * 2) zero) (replicate (n * n * 2) zero))
 
 -- what a request gives
 abbrev pub outputFor : List ℕ → Request → List ℕ

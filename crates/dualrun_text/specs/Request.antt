@@ -47,3 +47,17 @@ eigWord = 101 ∷ 105 ∷ 103 ∷ 32 ∷ []
 -- what a first line asks
 unfoldable pub requestOf : List ℕ → Request
 requestOf text = cond (startsWith luWord text) (luLine text) (cond (startsWith eigWord text) (eigLine text) Unreadable)
+
+-- `lu N` by its first line alone: refused 1 where N is above 32, 0 where it is not refused
+abbrev pub luLineRefusal : ℕ → ℕ
+luLineRefusal n = cond (ltb 32 n) 1 0
+
+-- `eig N S`: refused 1 where N is above 32, 3 where it is 0, 4 where S is above 1,000
+abbrev pub eigLineRefusal : ℕ → ℕ → ℕ
+eigLineRefusal n limit = cond (ltb 32 n) 1 (cond (eqb n 0) 3 (cond (ltb 1000 limit) 4 0))
+
+-- any request: refused 9 where its first line cannot be read
+abbrev pub lineRefusal : Request → ℕ
+lineRefusal (Lu n start) = luLineRefusal n
+lineRefusal (Eig n limit start) = eigLineRefusal n limit
+lineRefusal Unreadable = 9

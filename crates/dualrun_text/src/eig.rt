@@ -5,29 +5,18 @@ use jacobi::JacobiAnswer;
 ghost use mathlib.Core.Path.{_≡_};
 ghost use Prim.Native.Nat.{_*_, _<_, _≤_};
 ghost use lib.ListN.{length};
-ghost use Rattle.algebra.specs.Outcome.{numberOf};
 ghost use Rattle.jacobi.specs.Answer.{outcome};
+ghost use Rattle.dualrun_text.specs.Request.{eigLineRefusal};
 ghost use Rattle.dualrun_text.specs.Page.{page, written};
-ghost use Rattle.dualrun_text.specs.Lines.{pairLine};
 ghost use Rattle.dualrun_text.specs.Output.{eigLines, eigOfLines, eigOutput};
 
-// The line of a refusal: its number and 0.
-fn refusal(out: &mut [u8], answer: JacobiAnswer) -> usize
-    ensures { λ r. ⌜ page (now (out .exit)) r ≡ written (page (now (out .entry)) 0) (pairLine (numberOf (outcome answer)) 0) ⌝ }
-{
-    match answer {
-        JacobiAnswer::Refused { number } => write::pair(out, 0, number as usize, 0),
-        JacobiAnswer::Done { sweeps: _ } => write::pair(out, 0, 0, 0),
-    }
-}
-
-// What is printed of an answer: the sweeps, the eigenvalues and the vectors, or the line of a refusal.
+// What is printed of an answer: the sweeps, the eigenvalues and the vectors, or the number of a refusal and 0.
 fn lines(out: &mut [u8], n: usize, answer: JacobiAnswer, values: &[f64], vectors: &[f64]) -> usize
     requires { ⌜ (n ≤ 32) × (length (now values) ≡ n * 2) × (length (now vectors) ≡ n * n * 2) ⌝ }
     ensures { λ r. ⌜ page (now (out .exit)) r ≡ written (page (now (out .entry)) 0) (eigLines n (outcome answer) (now (values .entry)) (now (vectors .entry))) ⌝ }
 {
     let JacobiAnswer::Done { sweeps } = answer else {
-        return refusal(out, answer);
+        return write::pair(out, 0, answer.number() as usize, 0);
     };
     let first = write::pair(out, 0, 0, sweeps);
     let second = write::records(out, first, values, n);
@@ -55,19 +44,30 @@ fn of_lines(
     lines(out, n, answer, values, vectors)
 }
 
+// The number that the first line is refused by, 0 where it is not.
+pub(crate) fn line_refusal(n: usize, limit: usize) -> u32
+    ensures { λ r. ⌜ r ≡ eigLineRefusal n limit ⌝ }
+{
+    if algebra::LARGEST_N < n {
+        return algebra::TOO_LARGE;
+    }
+    if n == 0 {
+        return algebra::EMPTY;
+    }
+    if algebra::LARGEST_LIMIT < limit {
+        return algebra::LIMIT_TOO_LARGE;
+    }
+    0
+}
+
 // The command: 1, 3 and 4 are decided from the first line.
 pub(crate) fn command(text: &[u8], out: &mut [u8], n: usize, limit: usize, start: usize) -> usize
     requires { ⌜ start < 32 ⌝ }
     ensures { λ r. ⌜ page (now (out .exit)) r ≡ written (page (now (out .entry)) 0) (eigOutput (now (text .entry)) n limit start) ⌝ }
 {
-    if 32 < n {
-        return write::pair(out, 0, 1, 0);
-    }
-    if n == 0 {
-        return write::pair(out, 0, 3, 0);
-    }
-    if 1000 < limit {
-        return write::pair(out, 0, 4, 0);
+    let number = line_refusal(n, limit);
+    if number != 0 {
+        return write::pair(out, 0, number as usize, 0);
     }
     let full = n * n * 2;
     let row = n * 2;

@@ -8,7 +8,12 @@ ghost use mathlib.Core.Path.{_≡_};
 ghost use Prim.Native.Nat.{_≤_};
 ghost use lib.ListN.{length, take};
 ghost use Rattle.dualrun_text.specs.Page.{page, written};
+ghost use Rattle.dualrun_text.specs.Request.{lineRefusal};
 ghost use Rattle.dualrun_text.specs.Output.{outputOf};
+ghost use Rattle.dualrun_text.specs.Decided.{decidedOf};
+
+// The bytes of the longest first line that can be read: `eig `, nine digits, a space, nine digits and a newline.
+pub const LONGEST_LINE: usize = 24;
 
 // Digits read from a place on: what they spell, and how many there are.
 struct Scan {
@@ -36,6 +41,19 @@ enum Request {
     Unreadable,
 }
 
+impl Request {
+    // The number that the first line is refused by, 0 where it is not.
+    fn line_refusal(self) -> u32
+        ensures { λ r. ⌜ r ≡ lineRefusal self ⌝ }
+    {
+        match self {
+            Request::Lu { n, start: _ } => lu::line_refusal(n),
+            Request::Eig { n, limit, start: _ } => eig::line_refusal(n, limit),
+            Request::Unreadable => algebra::UNREADABLE,
+        }
+    }
+}
+
 // A word of the matrix.
 enum Word {
     Is(u64),
@@ -53,4 +71,15 @@ pub fn run(text: &[u8], out: &mut [u8]) -> usize
         Request::Eig { n, limit, start } => eig::command(text, out, n, limit, start),
         Request::Unreadable => write::bytes(out, 0, b"9\n"),
     }
+}
+
+// Whether the text decides the output, whatever follows it: its first line has come, and is refused 1, 3 or 4 or cannot be read.
+pub fn decided(text: &[u8]) -> bool
+    ensures { λ r. ⌜ r ≡ decidedOf (now (text .entry)) ⌝ }
+{
+    if !read::has_line(text) {
+        return false;
+    }
+    let request = read::request(text);
+    request.line_refusal() != 0
 }

@@ -5,29 +5,20 @@ use dual_lu::LuAnswer;
 ghost use mathlib.Core.Path.{_≡_};
 ghost use Prim.Native.Nat.{_*_, _<_, _≤_};
 ghost use lib.ListN.{length};
-ghost use Rattle.algebra.specs.Outcome.{numberOf};
 ghost use Rattle.matrices.specs.Answers.{luOutcome, luColumn};
+ghost use Rattle.dualrun_text.specs.Request.{luLineRefusal};
 ghost use Rattle.dualrun_text.specs.Page.{page, written};
-ghost use Rattle.dualrun_text.specs.Lines.{pairLine};
 ghost use Rattle.dualrun_text.specs.Output.{luLines, luOfLines, luOutput};
 
-// The line of a refusal: its number and its column.
-fn refusal(out: &mut [u8], answer: LuAnswer) -> usize
-    ensures { λ r. ⌜ page (now (out .exit)) r ≡ written (page (now (out .entry)) 0) (pairLine (numberOf (luOutcome answer)) (luColumn answer)) ⌝ }
-{
-    match answer {
-        LuAnswer::Refused { number, column } => write::pair(out, 0, number as usize, column),
-        LuAnswer::Done { swaps: _ } => write::pair(out, 0, 0, 0),
-    }
-}
-
-// What is printed of an answer: the swaps, the order and the factors, or the line of a refusal.
+// What is printed of an answer: the swaps, the order and the factors, or the number of a refusal and its column.
 fn lines(out: &mut [u8], n: usize, answer: LuAnswer, factors: &[f64], order: &[usize]) -> usize
     requires { ⌜ (n ≤ 32) × (length (now factors) ≡ n * n * 2) × (length (now order) ≡ n) ⌝ }
     ensures { λ r. ⌜ page (now (out .exit)) r ≡ written (page (now (out .entry)) 0) (luLines n (luOutcome answer) (luColumn answer) (now (factors .entry)) (now (order .entry))) ⌝ }
 {
     let LuAnswer::Done { swaps } = answer else {
-        return refusal(out, answer);
+        let number = answer.number() as usize;
+        let column = answer.column();
+        return write::pair(out, 0, number, column);
     };
     let first = write::pair(out, 0, 0, swaps);
     let second = write::order(out, first, order);
@@ -54,13 +45,24 @@ fn of_lines(
     lines(out, n, answer, factors, order)
 }
 
+// The number that the first line is refused by, 0 where it is not.
+pub(crate) fn line_refusal(n: usize) -> u32
+    ensures { λ r. ⌜ r ≡ luLineRefusal n ⌝ }
+{
+    if algebra::LARGEST_N < n {
+        return algebra::TOO_LARGE;
+    }
+    0
+}
+
 // The command: 1 is decided from the first line.
 pub(crate) fn command(text: &[u8], out: &mut [u8], n: usize, start: usize) -> usize
     requires { ⌜ start < 32 ⌝ }
     ensures { λ r. ⌜ page (now (out .exit)) r ≡ written (page (now (out .entry)) 0) (luOutput (now (text .entry)) n start) ⌝ }
 {
-    if 32 < n {
-        return write::pair(out, 0, 1, 0);
+    let number = line_refusal(n);
+    if number != 0 {
+        return write::pair(out, 0, number as usize, 0);
     }
     let full = n * n * 2;
     let mut matrix = [0.0f64; 2048];

@@ -9,6 +9,7 @@ ghost use Prim.Native.Nat.{_≤_, _<_};
 ghost use lib.ListN.{length};
 ghost use Rattle.dualrun_text.specs.Digits.{byteAt, startsWith, digitValue, scanOf};
 ghost use Rattle.dualrun_text.specs.Request.{numberFrom, luLine, eigLine, limitLine, requestOf};
+ghost use Rattle.dualrun_text.specs.Decided.{hasLine};
 ghost use Rattle.dualrun_text.specs.Body.{separatorOf, wordAt, isBody, floatsFrom};
 
 // The byte at p; 0, which no line has, past the end.
@@ -149,6 +150,23 @@ pub(crate) fn request(text: &[u8]) -> Request
         return eig_line(text);
     }
     Request::Unreadable
+}
+
+// The first line has come: a newline, or as many bytes as the longest line has that can be read.
+pub(crate) fn has_line(text: &[u8]) -> bool
+    ensures { λ r. ⌜ r ≡ hasLine (now (text .entry)) ⌝ }
+{
+    if super::LONGEST_LINE <= text.len() {
+        return true;
+    }
+    let mut i = 0;
+    while i < text.len() {
+        if text[i] == b'\n' {
+            return true;
+        }
+        i += 1;
+    }
+    false
 }
 
 // The byte after word number i.

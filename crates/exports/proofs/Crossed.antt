@@ -3,26 +3,38 @@ use Prim.Native.Nat.{ℕ}
 use mathlib.Core.Path.{_≡_, ap, sym, _∙_}
 use mathlib.Core.Bool.{Bool, cond}
 use mathlib.Core.List.{List}
+use lib.Dec.{eqb}
 use lib.Ieee.{Float}
-use borrow.Author.Tests.{ne-eqb}
+use borrow.Author.Tests.{eq-eqb, ne-eqb}
 use Rattle.algebra.specs.Outcome.{numberOf}
 use Rattle.matrices.specs.Entries.{LuLeft, luAnswered, SolveLeft, solveAnswered}
 use Rattle.matrices.specs.Answers.{luOutcome, luColumn, solveOutcome}
 use Rattle.matrices.specs.declared.LuAnswer.{LuAnswer}
 use Rattle.matrices.specs.declared.LuAnswer.the-variants.{Refused}
 use Rattle.matrices.specs.declared.SolveAnswer.{SolveAnswer}
-use Rattle.exports.specs.Numbered.{besideOf, luNumbered, solveNumbered}
+use Rattle.jacobi.specs.Entry.{JacobiLeft, jacobiAnswered}
+use Rattle.jacobi.specs.Answer.{outcome}
+use Rattle.jacobi.specs.declared.JacobiAnswer.{JacobiAnswer}
+use Rattle.jacobi.specs.declared.JacobiAnswer.the-variants as jacobi
+use Rattle.exports.specs.Numbered.{besideOf, luNumbered, solveNumbered, jacobiNumbered}
 
 -- the answer is k, and the entry left l: what crosses is l's
 pub crossed : {A L T : Type 0} (reading : A → L) (cross : L → T) (answer k : A) (l : L) → reading answer ≡ l → answer ≡ k → cross (reading k) ≡ cross l
 crossed reading cross answer k l promise told = ap cross (ap reading (sym told) ∙ promise)
 
--- LU refused by another number than 6: what stood beside it stays
-pub lu-refused : (before : ℕ) (answer : LuAnswer) (number column : ℕ) → answer ≡ Refused number column → (number ≡ 6 → ⊥) → (number ≡ numberOf (luOutcome answer)) × (before ≡ besideOf before (luOutcome answer) (luColumn answer))
-lu-refused before answer number column told other = (
-  ap (λ (r : LuAnswer). numberOf (luOutcome r)) (sym told),
-  ap (λ (b : Bool). cond b column before) (sym (ne-eqb number 6 other)) ∙ ap (λ (r : LuAnswer). besideOf before (luOutcome r) (luColumn r)) (sym told),
-)
+-- LU refused: at 6 the column stands beside the number, else what stood there stays
+module _ (before : ℕ) (answer : LuAnswer) (k c : ℕ) (told : answer ≡ Refused k c) (number : ℕ) (read : number ≡ numberOf (luOutcome answer)) where
+  beside : cond (eqb number 6) (luColumn answer) before ≡ besideOf before (luOutcome answer) (luColumn answer)
+  beside =
+      ap (λ (x : ℕ). cond (eqb x 6) (luColumn answer) before) read
+      ∙ ap (λ (r : LuAnswer). cond (eqb (numberOf (luOutcome r)) 6) (luColumn r) before) told
+      ∙ ap (λ (r : LuAnswer). besideOf before (luOutcome r) (luColumn r)) (sym told)
+
+  pub lu-singular : (column : ℕ) → column ≡ luColumn answer → number ≡ 6 → (number ≡ numberOf (luOutcome answer)) × (column ≡ besideOf before (luOutcome answer) (luColumn answer))
+  lu-singular column e six = (read, e ∙ ap (λ (b : Bool). cond b (luColumn answer) before) (sym (eq-eqb number 6 six)) ∙ beside)
+
+  pub lu-refused : (number ≡ 6 → ⊥) → (number ≡ numberOf (luOutcome answer)) × (before ≡ besideOf before (luOutcome answer) (luColumn answer))
+  lu-refused other = (read, ap (λ (b : Bool). cond b (luColumn answer) before) (sym (ne-eqb number 6 other)) ∙ beside)
 
 -- LU: its number, what stands beside it and both buffers cross
 pub lu-crossed : (before number after : ℕ) (factors : List Float) (order : List ℕ) (answer : LuAnswer) (l : LuLeft) → number ≡ numberOf (luOutcome answer) → after ≡ besideOf before (luOutcome answer) (luColumn answer)
@@ -32,3 +44,10 @@ lu-crossed before number after factors order answer l told beside promise = (λ 
 -- solve and inverse: the number and the result cross
 pub solve-crossed : (number : ℕ) (x : List Float) (answer : SolveAnswer) (l : SolveLeft) → number ≡ numberOf (solveOutcome answer) → solveAnswered (solveOutcome answer) x ≡ l → (number, x) ≡ solveNumbered l
 solve-crossed number x answer l told promise = ap (λ (k : ℕ). (k, x)) told ∙ ap solveNumbered promise
+
+-- Jacobi refused: the number and both buffers cross, the sweeps stay as they were
+pub jacobi-refused : (before k number : ℕ) (values vectors : List Float) (answer : JacobiAnswer) (l : JacobiLeft) → answer ≡ jacobi.Refused k → number ≡ numberOf (outcome answer)
+    → jacobiAnswered (outcome answer) values vectors ≡ l → (number, (before, (values, vectors))) ≡ jacobiNumbered before l
+jacobi-refused before k number values vectors answer l told read promise =
+    ap (λ (x : ℕ). (x, (before, (values, vectors)))) (read ∙ ap (λ (r : JacobiAnswer). numberOf (outcome r)) told)
+    ∙ crossed (λ (r : JacobiAnswer). jacobiAnswered (outcome r) values vectors) (jacobiNumbered before) answer (jacobi.Refused k) l promise told

@@ -1,6 +1,5 @@
 // LU, solve, determinant and inverse of matrices of `HyperDual`: row by row, four floats a record in the order re, eps1, eps2, eps1eps2.
 use super::linalg::lu_number;
-use super::linalg::solve_number;
 use hyperdual::HyperDualAnswer;
 ghost use mathlib.Core.Path.{_≡_};
 ghost use Rattle.hyperdual.specs.Rules.{hyperDualAlgebra, hyperDualLayout};
@@ -34,7 +33,7 @@ pub extern "C" fn evindrast_hyperdual_solve(
     ensures { λ r. ⌜ (r, now (x .exit)) ≡ solveNumbered (solveLeft hyperDualAlgebra hyperDualLayout n (now (factors .entry)) (now (order .entry)) (now (b .entry)) (now (x .entry))) ⌝ }
 {
     let answer = hyperdual_lu::solve(n, factors, order, b, x);
-    solve_number(answer)
+    answer.number()
 }
 
 // The determinant, from the factors, the order and the swap count, in its four parts.
@@ -75,5 +74,5 @@ pub extern "C" fn evindrast_hyperdual_inverse(
     ensures { λ r. ⌜ (r, now (out .exit)) ≡ solveNumbered (inverseLeft hyperDualAlgebra hyperDualLayout n (now (factors .entry)) (now (order .entry)) (now (out .entry))) ⌝ }
 {
     let answer = hyperdual_lu::inverse(n, factors, order, out);
-    solve_number(answer)
+    answer.number()
 }

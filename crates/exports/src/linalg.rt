@@ -1,14 +1,13 @@
 // LU, solve, determinant, inverse and Jacobi of matrices of `Dual`: row by row, two floats a record, real part first.
 use dual::DualAnswer;
 use dual_lu::LuAnswer;
-use dual_lu::SolveAnswer;
 use jacobi::JacobiAnswer;
 ghost use mathlib.Core.Path.{_≡_};
 ghost use Rattle.dual.specs.Rules.{dualAlgebra, dualLayout};
 ghost use Rattle.matrices.specs.Entries.{luLeft, solveLeft, inverseLeft, determinantLeft};
 ghost use Rattle.jacobi.specs.Entry.{jacobiLeft};
 ghost use Rattle.algebra.specs.Outcome.{numberOf};
-ghost use Rattle.matrices.specs.Answers.{luOutcome, luColumn, solveOutcome};
+ghost use Rattle.matrices.specs.Answers.{luOutcome, luColumn};
 ghost use Rattle.exports.specs.Numbered.{besideOf, luNumbered, solveNumbered, determinantNumbered, jacobiNumbered};
 
 // The number of an answer of LU; beside it the swap count, or at 6 the column.
@@ -16,28 +15,15 @@ pub(crate) fn lu_number(answer: LuAnswer, beside: &mut usize) -> u32
     ensures { λ r. ⌜ r ≡ numberOf (luOutcome answer) ⌝ }
     ensures { λ _. ⌜ now (beside .exit) ≡ besideOf (now (beside .entry)) (luOutcome answer) (luColumn answer) ⌝ }
 {
-    match answer {
-        LuAnswer::Done { swaps } => {
-            *beside = swaps;
-            0
+    let LuAnswer::Done { swaps } = answer else {
+        let number = answer.number();
+        if number == algebra::SINGULAR {
+            *beside = answer.column();
         }
-        LuAnswer::Refused { number, column } => {
-            if number == algebra::SINGULAR {
-                *beside = column;
-            }
-            number
-        }
-    }
-}
-
-// The number of an answer of solve or inverse.
-pub(crate) fn solve_number(answer: SolveAnswer) -> u32
-    ensures { λ r. ⌜ r ≡ numberOf (solveOutcome answer) ⌝ }
-{
-    match answer {
-        SolveAnswer::Done => 0,
-        SolveAnswer::Refused { number } => number,
-    }
+        return number;
+    };
+    *beside = swaps;
+    0
 }
 
 // The factors of a and the order of its rows. `beside` is written at 0, with the swap count, and at 6, with the column in which no pivot exceeds zero.
@@ -67,7 +53,7 @@ pub extern "C" fn evindrast_solve(
     ensures { λ r. ⌜ (r, now (x .exit)) ≡ solveNumbered (solveLeft dualAlgebra dualLayout n (now (factors .entry)) (now (order .entry)) (now (b .entry)) (now (x .entry))) ⌝ }
 {
     let answer = dual_lu::solve(n, factors, order, b, x);
-    solve_number(answer)
+    answer.number()
 }
 
 // The determinant, from the factors, the order and the swap count, in re and eps.
@@ -104,7 +90,7 @@ pub extern "C" fn evindrast_inverse(
     ensures { λ r. ⌜ (r, now (out .exit)) ≡ solveNumbered (inverseLeft dualAlgebra dualLayout n (now (factors .entry)) (now (order .entry)) (now (out .entry))) ⌝ }
 {
     let answer = dual_lu::inverse(n, factors, order, out);
-    solve_number(answer)
+    answer.number()
 }
 
 // Eigenvalues and eigenvectors (a column each), with the number of sweeps that did not stop at the threshold, at most `limit`.
@@ -120,11 +106,9 @@ pub extern "C" fn evindrast_jacobi_eigenvalue(
     ensures { λ r. ⌜ (r, (now (sweeps .exit), (now (values .exit), now (vectors .exit)))) ≡ jacobiNumbered (now (sweeps .entry)) (jacobiLeft dualAlgebra dualLayout n (now (a .entry)) limit (now (values .entry)) (now (vectors .entry))) ⌝ }
 {
     let answer = jacobi::jacobi_eigenvalue(n, a, limit, values, vectors);
-    match answer {
-        JacobiAnswer::Done { sweeps: count } => {
-            *sweeps = count;
-            0
-        }
-        JacobiAnswer::Refused { number } => number,
-    }
+    let JacobiAnswer::Done { sweeps: count } = answer else {
+        return answer.number();
+    };
+    *sweeps = count;
+    0
 }

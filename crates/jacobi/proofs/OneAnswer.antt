@@ -1,5 +1,5 @@
--- No second outcome meets the promise of the entry: one answer, and one content of each lent buffer. Assumes nothing.
-use mathlib.Core.Path.{_≡_, ap, sym, _∙_}
+-- No second outcome meets the promise of the entry: one answer, and one content of each lent buffer; nor that of an answer's number. Assumes nothing.
+use mathlib.Core.Path.{_≡_, refl, ap, sym, _∙_}
 use borrow.Fn.Kinds.{endedOf}
 use denote.Triple.Clauses.{atExit}
 use Rattle.real.proofs.Only.{Only}
@@ -9,6 +9,8 @@ use Rattle.jacobi.specs.declared.JacobiAnswer.{JacobiAnswer}
 use Rattle.jacobi.specs.declared.JacobiAnswer.the-variants.{Done, Refused}
 use Rattle.jacobi.proofs.jacobi_eigenvalue.Kinds as kinds
 use Rattle.jacobi.proofs.jacobi_eigenvalue.Reads as reads
+use Rattle.jacobi.proofs.JacobiAnswer.number.Kinds as number-k
+use Rattle.jacobi.proofs.JacobiAnswer.number.Reads as number
 
 -- document 01's reading tells the answers apart
 pub jacobi-one : (x y : JacobiAnswer) → outcome x ≡ outcome y → x ≡ y
@@ -23,3 +25,6 @@ jacobi-only κs a x y v w h p q =
       jacobi-one x y (ap (λ (l : JacobiLeft). l .answer) e),
       λ i. atExit (endedOf 3 kinds.ps kinds.r) κs a (v .0, (v .1 .0, (v .1 .1 .0, (ap (λ (l : JacobiLeft). l .values) e i, (ap (λ (l : JacobiLeft). l .vectors) e i, tt))))),
     )
+
+pub number-only : Only 0 number-k.ps number-k.r number.Pre number.Post
+number-only κs a x y v w h p q = (p ∙ sym q, refl)

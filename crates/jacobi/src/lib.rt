@@ -6,6 +6,7 @@ mod sweeps;
 ghost use mathlib.Core.Path.{_≡_};
 ghost use Prim.Native.Nat.{_*_, _<_, _≤_};
 ghost use lib.ListN.{length};
+ghost use Rattle.algebra.specs.Outcome.{numberOf};
 ghost use Rattle.dual.specs.Rules.{dualAlgebra, dualLayout};
 ghost use Rattle.dual_cells.specs.Records.{records};
 ghost use Rattle.matrices.specs.Matrix.{Square};
@@ -17,6 +18,18 @@ ghost use Rattle.jacobi.specs.Answer.{outcome};
 pub enum JacobiAnswer {
     Done { sweeps: usize },
     Refused { number: u32 },
+}
+
+impl JacobiAnswer {
+    // Document 01's number, 0 where the call is done.
+    pub fn number(self) -> u32
+        ensures { λ r. ⌜ r ≡ numberOf (outcome self) ⌝ }
+    {
+        match self {
+            JacobiAnswer::Done { sweeps: _ } => 0,
+            JacobiAnswer::Refused { number } => number,
+        }
+    }
 }
 
 // How the sweeps ended: their count, the rotations, and whether the threshold was zero at last.
@@ -36,7 +49,7 @@ pub(crate) enum Step {
 fn refusal(n: usize, a: usize, limit: usize, values: usize, vectors: usize) -> u32
     ensures { λ r. ⌜ r ≡ jacobiRefusal 2 n a limit values vectors ⌝ }
 {
-    if 32 < n {
+    if algebra::LARGEST_N < n {
         return algebra::TOO_LARGE;
     }
     if n == 0 {
@@ -52,7 +65,7 @@ fn refusal(n: usize, a: usize, limit: usize, values: usize, vectors: usize) -> u
     if vectors != full {
         return algebra::WRONG_LENGTH;
     }
-    if 1000 < limit {
+    if algebra::LARGEST_LIMIT < limit {
         return algebra::LIMIT_TOO_LARGE;
     }
     0

@@ -28,3 +28,5 @@ pub mod Laws
 pub mod Turns
 -- the entries by what their contracts say
 pub mod Calls
+-- the readings of an answer leave one number and one column
+pub mod OneAnswer

@@ -5,6 +5,10 @@ pub mod order;
 pub mod refusal;
 pub mod rows;
 
+ghost use mathlib.Core.Path.{_≡_};
+ghost use Rattle.algebra.specs.Outcome.{numberOf};
+ghost use Rattle.matrices.specs.Answers.{luOutcome, luColumn, solveOutcome};
+
 // The best row so far for a column, with the magnitude of its real part.
 pub struct Pivot {
     pub size: f64,
@@ -30,8 +34,42 @@ pub enum LuAnswer {
     Refused { number: u32, column: usize },
 }
 
+impl LuAnswer {
+    // Document 01's number, 0 where the call is done.
+    pub fn number(self) -> u32
+        ensures { λ r. ⌜ r ≡ numberOf (luOutcome self) ⌝ }
+    {
+        match self {
+            LuAnswer::Done { swaps: _ } => 0,
+            LuAnswer::Refused { number, column: _ } => number,
+        }
+    }
+
+    // The column beside the number, 0 unless the number is 6.
+    pub fn column(self) -> usize
+        ensures { λ r. ⌜ r ≡ luColumn self ⌝ }
+    {
+        match self {
+            LuAnswer::Done { swaps: _ } => 0,
+            LuAnswer::Refused { number: _, column } => column,
+        }
+    }
+}
+
 // What solve and inverse answer.
 pub enum SolveAnswer {
     Done,
     Refused { number: u32 },
+}
+
+impl SolveAnswer {
+    // Document 01's number, 0 where the call is done.
+    pub fn number(self) -> u32
+        ensures { λ r. ⌜ r ≡ numberOf (solveOutcome self) ⌝ }
+    {
+        match self {
+            SolveAnswer::Done => 0,
+            SolveAnswer::Refused { number } => number,
+        }
+    }
 }

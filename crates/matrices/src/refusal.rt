@@ -12,7 +12,7 @@ pub fn lu(w: usize, n: usize, a: usize, factors: usize, order: usize) -> u32
     requires { ⌜ w ≤ 8 ⌝ }
     ensures { λ r. ⌜ r ≡ luRefusal w n a factors order ⌝ }
 {
-    if 32 < n {
+    if algebra::LARGEST_N < n {
         return algebra::TOO_LARGE;
     }
     let full = n * n * w;
@@ -46,7 +46,7 @@ pub fn solve(w: usize, n: usize, factors: usize, order: &[usize], b: usize, x: u
     requires { ⌜ w ≤ 8 ⌝ }
     ensures { λ r. ⌜ r ≡ solveRefusal w n factors (now (order .entry)) b x ⌝ }
 {
-    if 32 < n {
+    if algebra::LARGEST_N < n {
         return algebra::TOO_LARGE;
     }
     if factors != n * n * w {
@@ -69,7 +69,7 @@ pub fn inverse(w: usize, n: usize, factors: usize, order: &[usize], out: usize) 
     requires { ⌜ w ≤ 8 ⌝ }
     ensures { λ r. ⌜ r ≡ inverseRefusal w n factors (now (order .entry)) out ⌝ }
 {
-    if 32 < n {
+    if algebra::LARGEST_N < n {
         return algebra::TOO_LARGE;
     }
     let full = n * n * w;
@@ -90,7 +90,7 @@ pub fn determinant(w: usize, n: usize, factors: usize, order: usize) -> u32
     requires { ⌜ w ≤ 8 ⌝ }
     ensures { λ r. ⌜ r ≡ lengthsRefusal w n factors order ⌝ }
 {
-    if 32 < n {
+    if algebra::LARGEST_N < n {
         return algebra::TOO_LARGE;
     }
     if factors != n * n * w {

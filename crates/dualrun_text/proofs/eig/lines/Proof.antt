@@ -1,5 +1,5 @@
--- `dualrun_text::eig::lines` meets its contract. Assumes nothing.
-use Prim.Native.Nat.{_-_, _*_}
+-- `dualrun_text::eig::lines` meets its contract: a refusal by its number, else the three parts one after the other. Assumes nothing.
+use Prim.Native.Nat.{ℕ, _-_, _*_}
 use mathlib.Core.Path.{ap, _∙_}
 use denote.Ref.{now}
 use native.Mathlib.Omega.{arith}
@@ -17,19 +17,28 @@ enum-known-answer c = search needs
 enum-told : tie.Need-enum-told
 enum-told c = search needs
 
-refusal-requires : tie.Need-refusal-requires
-refusal-requires c κs = search needs
+number-requires : tie.Need-number-requires
+number-requires c κs = search needs
+
+cast-pair : tie.Need-cast-pair
+cast-pair c = search needs
+
+pair-requires : tie.Need-pair-requires
+pair-requires c κs = search needs
 
 same-length : tie.Need-same-length
 same-length c = search needs
 
 returns : tie.Need-returns
 returns c =
-    let s = c .before .before .before .before .before .before .before .before .before .args in
-    c .before .before .refusal .ensures ∙ ap (written (page (now (s .out)) 0)) (eig-refused (s .n) (now (s .values)) (now (s .vectors)) (s .answer) _ (c .before .before .before .before .enum-told .given .1))
+    let s = c .before .before .before .before .before .before .before .before .before .before .args in
+    c .before .before .pair .ensures
+    ∙ ap (written (page (now (s .out)) 0))
+    (ap (λ (k : ℕ). pairLine k 0) (c .before .before .before .number .ensures)
+    ∙ eig-refused (s .n) (now (s .values)) (now (s .vectors)) (s .answer) _ (c .before .before .before .before .before .enum-told .given .1))
 
-pair-requires : tie.Need-pair-requires
-pair-requires c κs = search needs
+pair-requires-2 : tie.Need-pair-requires-2
+pair-requires-2 c κs = search needs
 
 records-requires : tie.Need-records-requires
 records-requires c κs = let h = c .before .before .before .before .before .before .before .before .before .before .before .pre .1 in omega arith
@@ -48,7 +57,7 @@ returns-2 c =
     let s = c .before .before .before .before .before .before .before .before .before .before .before .before .before .before .before .before .before .before .args in
     let p = page (now (s .out)) 0 in
     let told = c .before .before .before .before .before .before .before .before .before .before .before .before .before .answer .given in
-    three-parts p (pairLine 0 _) (recordLines (now (s .values)) (s .n)) (recordLines (now (s .vectors)) (s .n * s .n)) (c .before .before .before .before .before .before .before .before .before .before .pair .ensures) (c .before .before .before .before .before .before .records .ensures) (c .before .before .records2 .ensures)
+    three-parts p (pairLine 0 _) (recordLines (now (s .values)) (s .n)) (recordLines (now (s .vectors)) (s .n * s .n)) (c .before .before .before .before .before .before .before .before .before .before .pair2 .ensures) (c .before .before .before .before .before .before .records .ensures) (c .before .before .records2 .ensures)
     ∙ ap (written p) (eig-done (s .n) (now (s .values)) (now (s .vectors)) (s .answer) _ (told .1))
 
 pub lines-spec : {M : Type 1} → statement M
@@ -57,10 +66,12 @@ lines-spec =
     (tie.spec
     enum-known-answer
     enum-told
-    refusal-requires
+    number-requires
+    cast-pair
+    pair-requires
     same-length
     returns
-    pair-requires
+    pair-requires-2
     records-requires
     mul-records
     records-requires-2

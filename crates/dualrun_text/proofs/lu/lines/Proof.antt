@@ -1,4 +1,4 @@
--- `dualrun_text::lu::lines` meets its contract. Assumes nothing.
+-- `dualrun_text::lu::lines` meets its contract: a refusal by its number and column, else the three parts one after the other. Assumes nothing.
 use Prim.Native.Nat.{_-_, _*_}
 use mathlib.Core.Path.{ap, _∙_}
 use denote.Ref.{now}
@@ -18,19 +18,31 @@ enum-known-answer c = search needs
 enum-told : tie.Need-enum-told
 enum-told c = search needs
 
-refusal-requires : tie.Need-refusal-requires
-refusal-requires c κs = search needs
+number-requires : tie.Need-number-requires
+number-requires c κs = search needs
+
+cast-number : tie.Need-cast-number
+cast-number c = search needs
+
+column-requires : tie.Need-column-requires
+column-requires c κs = search needs
+
+pair-requires : tie.Need-pair-requires
+pair-requires c κs = search needs
 
 same-length : tie.Need-same-length
 same-length c = search needs
 
 returns : tie.Need-returns
 returns c =
-    let s = c .before .before .before .before .before .before .before .before .before .args in
-    c .before .before .refusal .ensures ∙ ap (written (page (now (s .out)) 0)) (lu-refused (s .n) (now (s .factors)) (now (s .order)) (s .answer) _ _ (c .before .before .before .before .enum-told .given .1))
+    let s = c .before .before .before .before .before .before .before .before .before .before .before .args in
+    c .before .before .pair .ensures
+    ∙ ap (written (page (now (s .out)) 0))
+    ((λ i. pairLine (c .before .before .before .before .before .number .ensures i) (c .before .before .before .before .column .ensures i))
+    ∙ lu-refused (s .n) (now (s .factors)) (now (s .order)) (s .answer) _ _ (c .before .before .before .before .before .before .enum-told .given .1))
 
-pair-requires : tie.Need-pair-requires
-pair-requires c κs = search needs
+pair-requires-2 : tie.Need-pair-requires-2
+pair-requires-2 c κs = search needs
 
 order-requires : tie.Need-order-requires
 order-requires c κs = search needs
@@ -50,7 +62,7 @@ returns-2 c =
     let p = page (now (s .out)) 0 in
     let l = now (s .order) in
     let told = c .before .before .before .before .before .before .before .before .before .before .before .before .before .answer .given in
-    three-parts p (pairLine 0 _) (orderLine l (length l)) (recordLines (now (s .factors)) (s .n * s .n)) (c .before .before .before .before .before .before .before .before .before .before .pair .ensures) (c .before .before .before .before .before .before .order .ensures) (c .before .before .records .ensures)
+    three-parts p (pairLine 0 _) (orderLine l (length l)) (recordLines (now (s .factors)) (s .n * s .n)) (c .before .before .before .before .before .before .before .before .before .before .pair2 .ensures) (c .before .before .before .before .before .before .order .ensures) (c .before .before .records .ensures)
     ∙ ap (written p) (lu-done (s .n) (now (s .factors)) l (s .answer) _ (told .1) (c .before .before .before .before .before .before .before .before .before .before .before .before .before .before .before .before .before .before .pre .2))
 
 pub lines-spec : {M : Type 1} → statement M
@@ -59,10 +71,13 @@ lines-spec =
     (tie.spec
     enum-known-answer
     enum-told
-    refusal-requires
+    number-requires
+    cast-number
+    column-requires
+    pair-requires
     same-length
     returns
-    pair-requires
+    pair-requires-2
     order-requires
     mul-records
     records-requires

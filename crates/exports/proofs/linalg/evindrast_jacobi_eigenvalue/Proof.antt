@@ -1,10 +1,11 @@
+-- `exports::linalg::evindrast_jacobi_eigenvalue` meets its contract: what the entry left crosses, by the case of its answer. Assumes nothing.
 use denote.Ref.{now}
 use Rattle.jacobi.specs.Entry.{jacobiAnswered}
 use Rattle.jacobi.specs.Answer.{outcome}
 use Rattle.jacobi.specs.declared.JacobiAnswer.{JacobiAnswer}
-use Rattle.jacobi.specs.declared.JacobiAnswer.the-variants.{Done, Refused}
+use Rattle.jacobi.specs.declared.JacobiAnswer.the-variants.{Done}
 use Rattle.exports.specs.Numbered.{jacobiNumbered}
-use Rattle.exports.proofs.Crossed.{crossed}
+use Rattle.exports.proofs.Crossed.{crossed, jacobi-refused}
 use borrow.Author.Needs.{needs}
 use Rattle.exports.proofs.linalg.evindrast_jacobi_eigenvalue.Statement.{statement}
 use Rattle.exports.proofs.linalg.evindrast_jacobi_eigenvalue.Tie as tie
@@ -15,8 +16,11 @@ jacobi-eigenvalue-requires c κs = search needs
 enum-known-answer : tie.Need-enum-known-answer
 enum-known-answer c = search needs
 
-enum-known-answer-2 : tie.Need-enum-known-answer-2
-enum-known-answer-2 c = search needs
+enum-told : tie.Need-enum-told
+enum-told c = search needs
+
+number-requires : tie.Need-number-requires
+number-requires c κs = search needs
 
 same-length : tie.Need-same-length
 same-length c = search needs
@@ -28,8 +32,7 @@ returns : tie.Need-returns
 returns c =
     let call = c .before .before .before .before .before .before .before .jacobi-eigenvalue in
     let s = c .before .before .before .before .before .before .before .before .before .before .before .before .before .args in
-    let told = c .before .answer .given in
-    crossed (λ (r : JacobiAnswer). jacobiAnswered (outcome r) (call .last .1 .1 .1 .0) (call .last .1 .1 .1 .1 .0)) (jacobiNumbered (now (s .sweeps))) _ (Done (told .0 .0)) _ (call .ensures) (told .1)
+    jacobi-refused (now (s .sweeps)) _ _ (call .last .1 .1 .1 .0) (call .last .1 .1 .1 .1 .0) _ _ (c .before .enum-told .given .1) (c .number .ensures) (call .ensures)
 
 same-length-3 : tie.Need-same-length-3
 same-length-3 c = search needs
@@ -41,8 +44,8 @@ returns-2 : tie.Need-returns-2
 returns-2 c =
     let call = c .before .before .before .before .before .before .before .jacobi-eigenvalue in
     let s = c .before .before .before .before .before .before .before .before .before .before .before .before .before .args in
-    let told = c .before .answer2 .given in
-    crossed (λ (r : JacobiAnswer). jacobiAnswered (outcome r) (call .last .1 .1 .1 .0) (call .last .1 .1 .1 .1 .0)) (jacobiNumbered (now (s .sweeps))) _ (Refused (told .0 .0)) _ (call .ensures) (told .1)
+    let told = c .before .answer .given in
+    crossed (λ (r : JacobiAnswer). jacobiAnswered (outcome r) (call .last .1 .1 .1 .0) (call .last .1 .1 .1 .1 .0)) (jacobiNumbered (now (s .sweeps))) _ (Done (told .0 .0)) _ (call .ensures) (told .1)
 
 pub evindrast-jacobi-eigenvalue-spec : {M : Type 1} → statement M
 evindrast-jacobi-eigenvalue-spec =
@@ -50,7 +53,8 @@ evindrast-jacobi-eigenvalue-spec =
     (tie.spec
     jacobi-eigenvalue-requires
     enum-known-answer
-    enum-known-answer-2
+    enum-told
+    number-requires
     same-length
     same-length-2
     returns
