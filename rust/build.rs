@@ -5,7 +5,8 @@ use std::path::{Path, PathBuf};
 /// The folder that cargo was called from: it runs this program in the package's own. Linux shows it, and shells name it in PWD.
 fn callers_folder() -> PathBuf {
     #[cfg(unix)]
-    let shown = std::fs::read_link(format!("/proc/{}/cwd", std::os::unix::process::parent_id())).ok();
+    let shown =
+        std::fs::read_link(format!("/proc/{}/cwd", std::os::unix::process::parent_id())).ok();
     #[cfg(not(unix))]
     let shown = None;
     shown.or_else(|| env::var_os("PWD").map(PathBuf::from)).unwrap_or_default()
