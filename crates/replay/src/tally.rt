@@ -4,7 +4,7 @@ use super::Place;
 use super::Read;
 use libc::STDOUT_FILENO;
 ghost use mathlib.Core.Path.{_≡_};
-ghost use mathlib.Core.Bool.{Bool};
+ghost use mathlib.Core.Bool.{false};
 ghost use Rattle.replay.specs.Tally.{oneMore, tally, countedOf, begunOf, afterOf};
 
 // How many cases were compared, and how many differ.
@@ -78,6 +78,17 @@ pub fn begun(run: Run, read: Read) -> Run
         place,
         tally: counted(tally, false),
         left: 0,
+    }
+}
+
+// A case that could not be read.
+pub fn cut(place: Place) -> Compared
+    ensures { λ r. ⌜ r ≡ record { place = place; whole = false; same = false } ⌝ }
+{
+    Compared {
+        place,
+        whole: false,
+        same: false,
     }
 }
 
