@@ -54,4 +54,5 @@ fn replay_file(path: &[u8], name: &[u8]) {
 
 fn main() {
     replay_file(b"dualrun.txt", b"dualrun");
+    replay_file(b"damaged.txt", b"damaged");
 }
