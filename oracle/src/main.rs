@@ -16,6 +16,7 @@ mod pool;
 mod random;
 mod record;
 mod records;
+mod refusal_cases;
 mod refusals;
 mod requests;
 mod root;

@@ -36,9 +36,9 @@ pub const EDGE_WORDS: [u64; 64] = [
     0xffe0000000000000, 0x7fd0000000000001, 0x3fb999999999999a, 0x3fe6666666666666, // 0.1 0.7
 ];
 
-/// The last of the pool: real parts at which a grouping shows that shows nowhere else. A logarithm's and a
-/// reciprocal's derivative (2^346), and a root's (2^685), are subnormal before they are doubled or halved; by 1.125 a
-/// logarithm's to a base near 1 overflows if it is doubled too soon.
+/// The last of the pool: real parts at which a grouping shows that shows nowhere else. Derivatives
+/// of a logarithm and a reciprocal (at 2^346) and of a root (at 2^685) are subnormal before they are
+/// doubled or halved; at 1.125 a logarithm's to a base near 1 overflows if it is doubled too soon.
 const TURN_WORDS: [u64; 3] = [0x559377b900000000, 0x6ac28dbd00000000, 0x3ff2000000000000];
 
 pub struct Pool(pub Vec<f64>);

@@ -45,8 +45,9 @@ impl Maker<'_> {
         requests
     }
 
-    /// Real parts at which another grouping of a derivative gives another float (`pool::TURNS`), with slopes of 1 in
-    /// the first parts, so that the derivative itself is what comes out; the values from outside are fixed too.
+    /// Real parts at which another grouping of a derivative gives another float (`pool::TURNS`), with
+    /// slopes of 1 in the first parts, so that the derivative itself comes out; the values from outside
+    /// are fixed too.
     fn turning(&self) -> Vec<Request> {
         let [small, root, large] = [0, 1, 2].map(|turn| (pool::TURNS.start + turn) as u8);
         let cases: &[(u8, &[f64])] = match self.description.function {
@@ -61,7 +62,10 @@ impl Maker<'_> {
             argument: Argument::default(),
             supplied: Some(supplied.to_vec()),
         };
-        cases.iter().flat_map(|case| (1..self.parts.min(4)).map(move |ones| request(case, ones))).collect()
+        cases
+            .iter()
+            .flat_map(|case| (1..self.parts.min(4)).map(move |ones| request(case, ones)))
+            .collect()
     }
 
     /// For comparisons and tests: the real parts that decide them, with derivative parts that must
@@ -184,7 +188,7 @@ impl Maker<'_> {
 const ZERO: u8 = 0;
 const ONE: u8 = 2;
 
-/// The logarithm of a base so near 1 that the first derivatives at `pool::TURNS` lie just below the largest float.
+/// The logarithm of a base so near 1 that the derivatives there lie just below the largest float.
 const BASE_BY_ONE: f64 = f64::from_bits(0x00059f0000000000);
 
 /// Real parts, as places of edges, that are equal or next to it: 1, zeros of either sign, NaN,
