@@ -81,7 +81,8 @@ fn answer<K: Kind>(
     (Answer { number: 0, words }, calls)
 }
 
-fn over<F: crate::record::Part, R: Record<F>>(
+/// The original's answer over a part type, as words.
+pub fn over<F: crate::record::Part, R: Record<F>>(
     function: Function,
     parts: &[Vec<f64>],
     argument: Argument,

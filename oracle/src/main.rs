@@ -16,6 +16,8 @@ mod pool;
 mod random;
 mod record;
 mod records;
+mod refusal_cases;
+mod refusals;
 mod requests;
 mod root;
 mod supplied;
@@ -49,6 +51,7 @@ fn write_all(folder: &Path, run: Run) -> usize {
     files.extend(records::all(run, &mut called));
     files.extend(matrix_files::all(run));
     files.push(dualrun::all(run));
+    files.push(refusals::all());
     files.iter().for_each(|file| file.write(folder, run));
     print_counts(&files);
     outside::check_matrices();

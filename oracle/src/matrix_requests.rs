@@ -226,6 +226,7 @@ pub fn explicit<T: Record<f64>>() -> Vec<Matrix<T>> {
 
 /// Matrices that show a rule of Jacobi by themselves.
 pub fn explicit_symmetric() -> Vec<Matrix> {
+    let tiny = f64::from_bits(1);
     let faint = 2f64.powi(-600);
     let huge = 2f64.powi(600);
     let nan = f64::NAN;
@@ -241,8 +242,38 @@ pub fn explicit_symmetric() -> Vec<Matrix> {
         &[(1.0, 0.0), (0.0, 1.0), (0.0, 0.0), (2.0, 0.0)],
         &[(-0.0, -0.0), (1.0, 0.0), (0.0, 0.0), (-0.0, -0.0)],
         &[(nan, 0.0), (0.0, 0.0), (0.0, 0.0), (1.0, 0.0)],
+        // theta is zero if half of the difference is taken first, and turns a slope if not
+        &[(0.0, 0.0), (2f64.powi(-511), 0.0), (0.0, 0.0), (tiny, 2f64.powi(588))],
+        // squares summed by column lie on the other side of the first entry
+        &SQUARES.map(by_words),
+        // an entry that is cleared late: its slope goes too
+        &CLEARED.map(by_words),
     ])
 }
+
+fn by_words((re, eps): (u64, u64)) -> (f64, f64) {
+    (f64::from_bits(re), f64::from_bits(eps))
+}
+
+/// Found by search, as the next: the part above the diagonal of 3 by 3.
+#[rustfmt::skip]
+const SQUARES: [(u64, u64); 9] = [
+    (0x3ff0000000000000, 0x3ff0000000000000), (0x3ff7267a66b2d613, 0x3ff0000000000000),
+    (0x40074f70b4e54b88, 0x4000000000000000),
+    (0, 0), (0x4000000000000000, 0x3fe0000000000000), (0x4006fd3b1c73ff98, 0x3ff0000000000000),
+    (0, 0), (0, 0), (0x4010000000000000, 0x3ff0000000000000),
+];
+
+#[rustfmt::skip]
+const CLEARED: [(u64, u64); 16] = [
+    (0x3ffbdc0ac9a34608, 0x409c89e6fdfac668), (0xbff7ff40246a1274, 0x4287600765d161d4),
+    (0x3fc36757a560cf56, 0x409b22d4fb6cf6f8), (0xbefdca009d5e4b84, 0xc001232592a6e66b),
+    (0, 0), (0x3fb5186ec8a67840, 0x3ff9f477959fc1a0), (0x3ff16a0b242ebb6c, 0x4276b68a954b4e90),
+    (0x4000000000000000, 0x426343aa08afb790),
+    (0, 0), (0, 0), (0xc008000000000000, 0xc07fb713fac112c0),
+    (0xc008000000000000, 0xc0928db264e5ed7b),
+    (0, 0), (0, 0), (0, 0), (0xbf1653d96d1b1fc0, 0xc00408219656687a),
+];
 
 fn matrices<T: Record<f64>>(all: &[&[(f64, f64)]]) -> Vec<Matrix<T>> {
     let matrix = |entries: &&[(f64, f64)]| Matrix {

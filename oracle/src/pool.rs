@@ -8,6 +8,7 @@ pub const UNIT: Range<usize> = 64..128;
 pub const MODERATE: Range<usize> = 128..192;
 pub const WIDE: Range<usize> = 192..224;
 pub const ANY: Range<usize> = 0..256;
+pub const TURNS: Range<usize> = 253..256;
 
 /// Places of the edges that single parts are set to.
 pub const NAN: u8 = 14;
@@ -35,6 +36,11 @@ pub const EDGE_WORDS: [u64; 64] = [
     0xffe0000000000000, 0x7fd0000000000001, 0x3fb999999999999a, 0x3fe6666666666666, // 0.1 0.7
 ];
 
+/// The last of the pool: real parts at which a grouping shows that shows nowhere else. Derivatives
+/// of a logarithm and a reciprocal (at 2^346) and of a root (at 2^685) are subnormal before they are
+/// doubled or halved; at 1.125 a logarithm's to a base near 1 overflows if it is doubled too soon.
+const TURN_WORDS: [u64; 3] = [0x559377b900000000, 0x6ac28dbd00000000, 0x3ff2000000000000];
+
 pub struct Pool(pub Vec<f64>);
 
 impl Pool {
@@ -44,6 +50,7 @@ impl Pool {
         floats.extend(MODERATE.map(|_| random.scaled(-6, 6)));
         floats.extend(WIDE.map(|_| random.scaled(-300, 300)));
         floats.extend((WIDE.end..ANY.end).map(|_| random.bits()));
+        floats.splice(TURNS, TURN_WORDS.map(f64::from_bits));
         Self(floats)
     }
 

@@ -31,7 +31,7 @@ pub fn all(run: Run, called: &mut Called) -> Vec<Answers> {
 }
 
 /// A kind has those `derivative` functions that its type has, and every other function.
-fn has<K: Kind>(description: &Description) -> bool {
+pub fn has<K: Kind>(description: &Description) -> bool {
     use Function::{Derivative, Derivative1, Derivative2, Derivative3};
     let function = description.function;
     let derivative = [Derivative, Derivative1, Derivative2, Derivative3].contains(&function);

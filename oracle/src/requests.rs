@@ -39,9 +39,38 @@ struct Maker<'a> {
 }
 
 impl Maker<'_> {
+    fn fixed(&mut self) -> Vec<Request> {
+        let mut requests = self.deciding();
+        requests.extend(self.turning());
+        requests
+    }
+
+    /// Real parts at which another grouping of a derivative gives another float (`pool::TURNS`), with
+    /// slopes of 1 in the first parts, so that the derivative itself comes out; the values from outside
+    /// are fixed too.
+    fn turning(&self) -> Vec<Request> {
+        let [small, root, large] = [0, 1, 2].map(|turn| (pool::TURNS.start + turn) as u8);
+        let cases: &[(u8, &[f64])] = match self.description.function {
+            Function::Recip | Function::Inv => &[(small, &[])],
+            Function::Sqrt => &[(root, &[])],
+            Function::Ln | Function::Log2 | Function::Log10 | Function::Ln1p => &[(small, &[1.5])],
+            Function::Log => &[(small, &[1.5, 0.75]), (large, &[1.5, BASE_BY_ONE])],
+            _ => &[],
+        };
+        let request = |(real, supplied): &(u8, &[f64]), ones: usize| Request {
+            records: vec![self.with(*real, |part| if part <= ones { ONE } else { ZERO })],
+            argument: Argument::default(),
+            supplied: Some(supplied.to_vec()),
+        };
+        cases
+            .iter()
+            .flat_map(|case| (1..self.parts.min(4)).map(move |ones| request(case, ones)))
+            .collect()
+    }
+
     /// For comparisons and tests: the real parts that decide them, with derivative parts that must
     /// not matter.
-    fn fixed(&mut self) -> Vec<Request> {
+    fn deciding(&mut self) -> Vec<Request> {
         let records: Vec<Vec<Vec<u8>>> = match self.description.function {
             Function::Eq
             | Function::Lt
@@ -154,6 +183,13 @@ impl Maker<'_> {
         }
     }
 }
+
+/// 0 and 1, as places of edges.
+const ZERO: u8 = 0;
+const ONE: u8 = 2;
+
+/// The logarithm of a base so near 1 that the derivatives there lie just below the largest float.
+const BASE_BY_ONE: f64 = f64::from_bits(0x00059f0000000000);
 
 /// Real parts, as places of edges, that are equal or next to it: 1, zeros of either sign, NaN,
 /// infinities, subnormals, neighbours.

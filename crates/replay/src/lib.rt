@@ -1,15 +1,13 @@
-// What the replaying programs share: reading recorded answers, counting and reporting. For the gate's programs alone; no contract can
-// speak of what is read, so these functions are proved safe and no more.
+// What the replaying programs share: reading recorded answers (here and in texts.rt), comparing (same.rt), counting and reporting (tally.rt). A function that takes
+// a file is proved safe and ending and no more, since no contract can speak of what is read; every other has a promise of its answer.
 //
-// A file of answers holds hex words apart by spaces and newlines; a line that starts with # is passed over.
-pub mod compare;
-pub mod matrices;
-pub mod records;
-pub mod tables;
+// A file of answers holds hex words, each ended by a space or a newline; a line that starts with # is passed over.
+pub mod same;
+pub mod tally;
 pub mod texts;
 
-use libc::STDOUT_FILENO;
-ghost use Prim.Native.Nat.{_≤_};
+ghost use mathlib.Core.Path.{_≡_};
+ghost use Rattle.replay.specs.Reading.{digitOf, seenAfter};
 
 // The bytes at..end of the buffer are still to be read.
 pub struct Place {
@@ -17,17 +15,17 @@ pub struct Place {
     pub end: usize,
 }
 
-// A word, with its number of digits: none at the end of the file.
+// A word, with its number of digits: none where the file ends before the word does, or has a byte that no file of answers has.
 pub struct Word {
     pub word: u64,
     pub digits: u32,
     pub place: Place,
 }
 
-// How many answers were compared, and how many differ.
-pub struct Tally {
-    pub compared: u64,
-    pub different: u64,
+// Where the reader stands, and whether the file had all that was asked for.
+pub struct Read {
+    pub place: Place,
+    pub whole: bool,
 }
 
 enum Byte {
@@ -43,13 +41,9 @@ struct Seen {
     done: bool,
 }
 
-pub(crate) fn least(a: usize, b: usize) -> usize
-    ensures { λ r. ⌜ (r ≤ a) × (r ≤ b) ⌝ }
+pub fn start() -> Place
+    ensures { λ r. ⌜ r ≡ record { at = 0; end = 0 } ⌝ }
 {
-    if a < b { a } else { b }
-}
-
-pub fn start() -> Place {
     Place { at: 0, end: 0 }
 }
 
@@ -67,41 +61,77 @@ fn next_byte(file: i32, buffer: &mut [u8; 4096], place: Place) -> Byte {
 }
 
 // A hex digit's value, and 16 for any other byte.
-fn digit(b: u8) -> u64 {
-    if b >= b'0' && b <= b'9' {
+fn digit(b: u8) -> u64
+    ensures { λ r. ⌜ r ≡ digitOf b ⌝ }
+{
+    if b < b'0' {
+        return 16;
+    }
+    if b <= b'9' {
         return (b - b'0') as u64;
     }
-    if b >= b'a' && b <= b'f' {
+    if b < b'a' {
+        return 16;
+    }
+    if b <= b'f' {
         return (b - b'a' + 10) as u64;
     }
     16
 }
 
-fn scan(s: Seen, b: u8) -> Seen {
+// A byte that is no digit, outside a comment: a space or a newline ends a word that has begun, # begins a comment where none has, any other byte ends the
+// reading with no digits.
+fn parted(s: Seen, b: u8) -> Seen
+    ensures { λ r. ⌜ r ≡ Rattle.replay.specs.Reading.parted s b ⌝ }
+{
+    let word = s.word;
+    let digits = s.digits;
+    match b {
+        b' ' | b'\n' => Seen {
+            word,
+            digits,
+            comment: false,
+            done: digits != 0,
+        },
+        b'#' => Seen {
+            word: 0,
+            digits: 0,
+            comment: digits == 0,
+            done: digits != 0,
+        },
+        _ => Seen {
+            word: 0,
+            digits: 0,
+            comment: false,
+            done: true,
+        },
+    }
+}
+
+// One byte more: a digit joins the word, and a comment goes on to the line's end.
+fn scan(s: Seen, b: u8) -> Seen
+    ensures { λ r. ⌜ r ≡ seenAfter s b ⌝ }
+{
+    let word = s.word;
+    let digits = s.digits;
     if s.comment {
         return Seen {
-            word: s.word,
-            digits: s.digits,
+            word,
+            digits,
             comment: b != b'\n',
             done: false,
         };
     }
     let d = digit(b);
     if d < 16 {
-        let word = s.word % 0x1000_0000_0000_0000 * 16 + d;
         return Seen {
-            word,
-            digits: std::num::wrapping_add_u32(s.digits, 1),
+            word: word % 0x1000_0000_0000_0000 * 16 + d,
+            digits: if digits < 17 { digits + 1 } else { 17 },
             comment: false,
             done: false,
         };
     }
-    Seen {
-        word: s.word,
-        digits: s.digits,
-        comment: b == b'#',
-        done: s.digits != 0,
-    }
+    parted(s, b)
 }
 
 // The next word of the file.
@@ -118,8 +148,8 @@ pub fn next_word(file: i32, buffer: &mut [u8; 4096], place: Place) -> Word {
         let read = next_byte(file, buffer, here);
         let Byte::Is(b, after) = read else {
             return Word {
-                word: s.word,
-                digits: s.digits,
+                word: 0,
+                digits: 0,
                 place: here,
             };
         };
@@ -134,33 +164,25 @@ pub fn next_word(file: i32, buffer: &mut [u8; 4096], place: Place) -> Word {
     }
 }
 
-impl Tally {
-    pub fn new(compared: u64, different: u64) -> Self {
-        Self {
-            compared,
-            different,
+// Fills the lent words from the file's next ones, which are to have so many digits each.
+pub fn read_words(
+    file: i32,
+    buffer: &mut [u8; 4096],
+    place: Place,
+    digits: u32,
+    words: &mut [u64],
+) -> Read {
+    let mut here = place;
+    let mut whole = true;
+    let mut i = 0usize;
+    while i < words.len() {
+        let w = next_word(file, buffer, here);
+        here = w.place;
+        if w.digits != digits {
+            whole = false;
         }
+        words[i] = w.word;
+        i += 1;
     }
-}
-
-pub(crate) fn added(a: Tally, b: Tally) -> Tally {
-    Tally::new(
-        std::num::wrapping_add_u64(a.compared, b.compared),
-        std::num::wrapping_add_u64(a.different, b.different),
-    )
-}
-
-// One answer more: same or not.
-pub fn counted(t: Tally, same: bool) -> Tally {
-    added(t, Tally::new(1, if same { 0 } else { 1 }))
-}
-
-// Prints NAME: N compared, M different.
-pub fn report(name: &[u8], t: Tally) {
-    io::write_all(STDOUT_FILENO, name);
-    io::write_all(STDOUT_FILENO, b": ");
-    io::print_decimal(STDOUT_FILENO, t.compared);
-    io::write_all(STDOUT_FILENO, b" compared, ");
-    io::print_decimal(STDOUT_FILENO, t.different);
-    io::write_all(STDOUT_FILENO, b" different\n");
+    Read { place: here, whole }
 }

@@ -1,6 +1,8 @@
-// The cases of dualrun.txt (oracle/README.md): texts of so many bytes, read as they stand.
+// The texts of dualrun.txt (oracle/README.md): so many bytes, read as they stand.
 use super::Byte;
 use super::Place;
+ghost use mathlib.Core.Path.{_≡_};
+ghost use Prim.Native.Nat.{min};
 ghost use Rattle.io.specs.Counts.{Counts};
 
 // How many bytes were read, whether they are as many as were asked for, and where the reader stands.
@@ -8,6 +10,12 @@ pub struct Text {
     pub count: usize,
     pub whole: bool,
     pub place: Place,
+}
+
+fn least(a: usize, b: usize) -> usize
+    ensures { λ r. ⌜ r ≡ min a b ⌝ }
+{
+    if a < b { a } else { b }
 }
 
 // Reads so many bytes to the start of a lent buffer, as far as it and the file go.
@@ -20,7 +28,7 @@ pub fn read_text(
 ) -> Text
     ensures { λ r. ⌜ Counts (r .count) (now (bytes .exit)) ⌝ }
 {
-    let end = super::least(count as usize, bytes.len());
+    let end = least(count as usize, bytes.len());
     let mut here = place;
     let mut i = 0usize;
     while i < end {
@@ -41,20 +49,4 @@ pub fn read_text(
         whole: i as u64 == count,
         place: here,
     }
-}
-
-// Whether two texts are the same.
-pub fn same_text(left: &[u8], right: &[u8]) -> bool {
-    if left.len() != right.len() {
-        return false;
-    }
-    let mut same = true;
-    let mut i = 0usize;
-    while i < left.len() {
-        if left[i] != right[i] {
-            same = false;
-        }
-        i += 1;
-    }
-    same
 }

@@ -1,7 +1,9 @@
-// Replays the recorded texts of dualrun: dualrun.txt. The runner's output is to be the file's, byte for byte.
+// Replays recorded texts of dualrun: the runner's output is to be the file's, byte for byte.
 use replay::Place;
-use replay::Tally;
-use replay::matrices::Compared;
+use replay::same;
+use replay::tally;
+use replay::tally::Compared;
+use replay::tally::Tally;
 use replay::texts;
 
 // One case: the lengths of the input and the output, the input, the output.
@@ -9,52 +11,48 @@ fn case(file: i32, buffer: &mut [u8; 4096], place: Place) -> Compared {
     let mut text = io::large_buffer();
     let mut wanted = io::large_buffer();
     let mut out = io::large_buffer();
-    let input = replay::next_word(file, buffer, place);
-    let place = input.place;
-    let output = replay::next_word(file, buffer, place);
-    let place = output.place;
-    let given = texts::read_text(file, buffer, place, input.word, &mut text);
+    let mut lengths = [0u64; 2];
+    let read = replay::read_words(file, buffer, place, 8, &mut lengths);
+    let place = read.place;
+    let given = texts::read_text(file, buffer, place, lengths[0], &mut text);
     let place = given.place;
     let n = given.count;
-    let recorded = texts::read_text(file, buffer, place, output.word, &mut wanted);
+    let recorded = texts::read_text(file, buffer, place, lengths[1], &mut wanted);
     let place = recorded.place;
     let m = recorded.count;
     let written = dualrun_text::run(&text[..n], &mut out);
-    let same = texts::same_text(&out[..written], &wanted[..m]);
     Compared {
         place,
-        same: given.whole && recorded.whole && same,
+        whole: read.whole && given.whole && recorded.whole,
+        same: same::same_text(&wanted[..m], &out[..written]),
     }
 }
 
-// The number of cases, then so many; what comes after them is a difference.
+// Every case.
 fn cases(file: i32) -> Tally {
     let mut buffer = [0u8; 4096];
-    let count = replay::next_word(file, &mut buffer, replay::start());
-    let mut here = count.place;
-    let mut tally = Tally::new(0, 0);
-    let mut turns = count.word;
-    while turns > 0 {
-        let c = case(file, &mut buffer, here);
-        here = c.place;
-        tally = replay::counted(tally, c.same);
-        turns -= 1;
+    let mut run = tally::begin(file, &mut buffer);
+    while run.left > 0 {
+        let place = run.place;
+        let c = case(file, &mut buffer, place);
+        run = tally::after(run, c);
     }
-    let rest = replay::next_word(file, &mut buffer, here);
-    if rest.digits == 0 {
-        tally
-    } else {
-        replay::counted(tally, false)
+    tally::ended(file, &mut buffer, run)
+}
+
+// Replays a file, and reports it by a name.
+fn replay_file(path: &[u8], name: &[u8]) {
+    let file = os::open_read(path);
+    if file < 0 {
+        os::fail(path);
+        return;
     }
+    let t = cases(file);
+    libc::close(file);
+    tally::report(name, t);
 }
 
 fn main() {
-    let file = os::open_read(b"dualrun.txt");
-    if file < 0 {
-        os::fail(b"dualrun.txt");
-        return;
-    }
-    let tally = cases(file);
-    libc::close(file);
-    replay::report(b"dualrun", tally);
+    replay_file(b"dualrun.txt", b"dualrun");
+    replay_file(b"damaged.txt", b"damaged");
 }

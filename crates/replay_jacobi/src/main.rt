@@ -2,114 +2,115 @@
 // runs are to give the file's answer.
 use jacobi::JacobiAnswer;
 use replay::Place;
-use replay::Tally;
-use replay::matrices;
-use replay::matrices::Compared;
+use replay::tally;
+use replay::tally::Compared;
+use replay::tally::Tally;
+ghost use mathlib.Core.Path.{_≡_};
+ghost use mathlib.Core.Bool.{_&&_};
+ghost use Rattle.jacobi.specs.Answer.{outcome};
+ghost use Rattle.replay_jacobi.specs.Runs.{spoiledAt, spoiledOf, sameRun};
 
 const NAN: u64 = 0x7ff8_0000_0000_0000;
 
-// What a case says beside its size and its floats. The file's number of rotations and whether the run settled are passed over: the port does not
-// report them.
+// What a case begins with. Its numbers of rotations and whether the run settled are passed over: the port does not report them.
 struct Head {
+    size: u64,
     limit: usize,
     sweeps: u64,
+    whole: bool,
     place: Place,
 }
 
 fn read_head(file: i32, buffer: &mut [u8; 4096], place: Place) -> Head {
-    let limit = replay::next_word(file, buffer, place);
-    let place = limit.place;
-    let sweeps = replay::next_word(file, buffer, place);
-    let place = sweeps.place;
-    let rotations = replay::next_word(file, buffer, place);
-    let place = rotations.place;
-    let settled = replay::next_word(file, buffer, place);
-    let place = settled.place;
+    let mut size = [0u64; 1];
+    let mut counts = [0u64; 2];
+    let mut rotations = [0u64; 1];
+    let mut settled = [0u64; 1];
+    let first = replay::read_words(file, buffer, place, 2, &mut size);
+    let place = first.place;
+    let second = replay::read_words(file, buffer, place, 4, &mut counts);
+    let place = second.place;
+    let third = replay::read_words(file, buffer, place, 8, &mut rotations);
+    let place = third.place;
+    let fourth = replay::read_words(file, buffer, place, 2, &mut settled);
+    let place = fourth.place;
     Head {
-        limit: limit.word as usize,
-        sweeps: sweeps.word,
+        size: size[0],
+        limit: counts[0] as usize,
+        sweeps: counts[1],
+        whole: first.whole && second.whole && third.whole && fourth.whole,
         place,
     }
 }
 
-// Whether the answer is this number of sweeps.
-fn has_sweeps(answer: JacobiAnswer, wanted: u64) -> bool {
-    match answer {
-        JacobiAnswer::Done { sweeps } => sweeps as u64 == wanted,
-        JacobiAnswer::Refused { number } => false,
-    }
-}
-
-// A float of the record at this place of a matrix of n by n: another one below the diagonal.
-fn spoiled(n: usize, record: usize, x: f64, other: f64) -> f64 {
+// Float number k of a matrix of n by n records of two, which is x: of (NaN, 42) below the diagonal.
+fn spoiled(n: usize, k: usize, x: f64) -> f64
+    ensures { λ r. ⌜ r ≡ spoiledAt n k x ⌝ }
+{
     if n == 0 {
         return x;
     }
-    if record % n < record / n {
-        return other;
+    if k / 2 / n <= k / 2 % n {
+        return x;
     }
-    x
+    if k % 2 == 0 {
+        return real::float_of_word(NAN);
+    }
+    42.0
 }
 
 // Puts (NaN, 42) below the diagonal.
-fn spoil(n: usize, a: &mut [f64]) {
-    let count = a.len() / 2;
+fn spoil(n: usize, a: &mut [f64])
+    ensures { λ _. ⌜ now (a .exit) ≡ spoiledOf n (now (a .entry)) ⌝ }
+{
     let mut k = 0usize;
-    while k < count {
-        let re = k * 2;
-        let eps = re + 1;
-        a[re] = spoiled(n, k, a[re], real::float_of_word(NAN));
-        a[eps] = spoiled(n, k, a[eps], 42.0);
+    while k < a.len() {
+        a[k] = spoiled(n, k, a[k]);
         k += 1;
     }
 }
 
-// Whether the sweeps, the values and the vectors are all the same.
-fn all(sweeps: bool, values: bool, vectors: bool) -> bool {
-    sweeps && values && vectors
-}
-
-// The matrix as the file has it, compared with the file.
-fn same_answer(
-    file: i32,
-    buffer: &mut [u8; 4096],
-    place: Place,
-    n: usize,
-    a: &[f64],
-    limit: usize,
+// Whether a run gives the file's sweeps, values and vectors.
+fn same_run(
     sweeps: u64,
-    values: &mut [f64],
-    vectors: &mut [f64],
-) -> Compared {
-    let answer = jacobi::jacobi_eigenvalue(n, a, limit, values, vectors);
-    let sweeps = has_sweeps(answer, sweeps);
-    let values = matrices::same_floats(file, buffer, place, values);
-    let place = values.place;
-    let vectors = matrices::same_floats(file, buffer, place, vectors);
-    let place = vectors.place;
-    Compared {
-        place,
-        same: all(sweeps, values.same, vectors.same),
+    values: &[u64],
+    vectors: &[u64],
+    answer: JacobiAnswer,
+    left_values: &[f64],
+    left_vectors: &[f64],
+) -> bool
+    ensures { λ r. ⌜ r ≡ sameRun sweeps (now (values .entry)) (now (vectors .entry)) (outcome answer) (now («left_values» .entry)) (now («left_vectors» .entry)) ⌝ }
+{
+    let JacobiAnswer::Done { sweeps: got } = answer else {
+        return false;
+    };
+    if sweeps != got as u64 {
+        return false;
     }
+    if replay_matrices::same_floats(values, left_values) {
+        return replay_matrices::same_floats(vectors, left_vectors);
+    }
+    false
 }
 
-// Whether the matrix, spoiled, gives these values and vectors again.
-fn same_again(
-    n: usize,
-    a: &mut [f64],
-    limit: usize,
+// Whether both runs do.
+fn same_runs(
     sweeps: u64,
-    values: &[f64],
-    vectors: &[f64],
-    values_again: &mut [f64],
-    vectors_again: &mut [f64],
-) -> bool {
-    spoil(n, a);
-    let answer = jacobi::jacobi_eigenvalue(n, a, limit, values_again, vectors_again);
-    let sweeps = has_sweeps(answer, sweeps);
-    let values = matrices::same_words(values, values_again);
-    let vectors = matrices::same_words(vectors, vectors_again);
-    all(sweeps, values, vectors)
+    values: &[u64],
+    vectors: &[u64],
+    first: JacobiAnswer,
+    first_values: &[f64],
+    first_vectors: &[f64],
+    again: JacobiAnswer,
+    values_again: &[f64],
+    vectors_again: &[f64],
+) -> bool
+    ensures { λ r. ⌜ r ≡ (sameRun sweeps (now (values .entry)) (now (vectors .entry)) (outcome first) (now («first_values» .entry)) (now («first_vectors» .entry)) && sameRun sweeps (now (values .entry)) (now (vectors .entry)) (outcome again) (now («values_again» .entry)) (now («vectors_again» .entry))) ⌝ }
+{
+    if same_run(sweeps, values, vectors, first, first_values, first_vectors) {
+        return same_run(sweeps, values, vectors, again, values_again, vectors_again);
+    }
+    false
 }
 
 // One case, in buffers of the lengths of n.
@@ -118,77 +119,89 @@ fn case_of(
     buffer: &mut [u8; 4096],
     place: Place,
     n: usize,
+    limit: usize,
+    sweeps: u64,
+    words: &mut [u64],
     a: &mut [f64],
-    values: &mut [f64],
-    vectors: &mut [f64],
+    values: &mut [u64],
+    first_values: &mut [f64],
+    first_vectors: &mut [f64],
     values_again: &mut [f64],
     vectors_again: &mut [f64],
 ) -> Compared {
-    let head = read_head(file, buffer, place);
-    let place = head.place;
-    let limit = head.limit;
-    let sweeps = head.sweeps;
-    let place = matrices::read_floats(file, buffer, place, a);
-    let compared = same_answer(file, buffer, place, n, a, limit, sweeps, values, vectors);
-    let place = compared.place;
-    if compared.same {
-        let same = same_again(
-            n,
-            a,
-            limit,
-            sweeps,
-            values,
-            vectors,
-            values_again,
-            vectors_again,
-        );
-        return Compared { place, same };
-    }
-    Compared { place, same: false }
+    let matrix = replay::read_words(file, buffer, place, 16, words);
+    let place = matrix.place;
+    replay_matrices::floats_of(words, a);
+    let eigenvalues = replay::read_words(file, buffer, place, 16, values);
+    let place = eigenvalues.place;
+    let vectors = replay::read_words(file, buffer, place, 16, words);
+    let place = vectors.place;
+    let whole = matrix.whole && eigenvalues.whole && vectors.whole;
+    let first = jacobi::jacobi_eigenvalue(n, a, limit, first_values, first_vectors);
+    spoil(n, a);
+    let again = jacobi::jacobi_eigenvalue(n, a, limit, values_again, vectors_again);
+    let same = same_runs(
+        sweeps,
+        values,
+        words,
+        first,
+        first_values,
+        first_vectors,
+        again,
+        values_again,
+        vectors_again,
+    );
+    Compared { place, whole, same }
 }
 
 // One case, in buffers full of what must not stay.
 fn case(file: i32, buffer: &mut [u8; 4096], place: Place) -> Compared {
-    let size = matrices::read_size(file, buffer, place);
-    let place = size.place;
-    if !size.known {
-        return Compared { place, same: false };
+    let head = read_head(file, buffer, place);
+    let place = head.place;
+    let size = head.size;
+    if !head.whole {
+        return tally::cut(place);
     }
-    let n = size.n;
-    let full = matrices::floats_of(n);
+    if 32 < size {
+        return tally::cut(place);
+    }
+    let n = size as usize;
+    let full = replay_matrices::floats_in(n, 2);
     let row = n * 2;
-    let mut a = [7.0f64; 2048];
-    let mut values = [7.0f64; 64];
-    let mut vectors = [7.0f64; 2048];
+    let mut words = [7u64; 4096];
+    let mut a = [7.0f64; 4096];
+    let mut values = [7u64; 64];
+    let mut first_values = [7.0f64; 64];
+    let mut first_vectors = [7.0f64; 4096];
     let mut values_again = [5.0f64; 64];
-    let mut vectors_again = [5.0f64; 2048];
+    let mut vectors_again = [5.0f64; 4096];
     case_of(
         file,
         buffer,
         place,
         n,
+        head.limit,
+        head.sweeps,
+        &mut words[..full],
         &mut a[..full],
         &mut values[..row],
-        &mut vectors[..full],
+        &mut first_values[..row],
+        &mut first_vectors[..full],
         &mut values_again[..row],
         &mut vectors_again[..full],
     )
 }
 
-// The number of cases, and then so many.
+// Every case.
 fn cases(file: i32) -> Tally {
     let mut buffer = [0u8; 4096];
-    let count = replay::next_word(file, &mut buffer, replay::start());
-    let mut here = count.place;
-    let mut tally = Tally::new(0, 0);
-    let mut turns = count.word;
-    while turns > 0 {
-        let c = case(file, &mut buffer, here);
-        here = c.place;
-        tally = replay::counted(tally, c.same);
-        turns -= 1;
+    let mut run = tally::begin(file, &mut buffer);
+    while run.left > 0 {
+        let place = run.place;
+        let c = case(file, &mut buffer, place);
+        run = tally::after(run, c);
     }
-    tally
+    tally::ended(file, &mut buffer, run)
 }
 
 fn main() {
@@ -197,7 +210,7 @@ fn main() {
         os::fail(b"jacobi.txt");
         return;
     }
-    let tally = cases(file);
+    let t = cases(file);
     libc::close(file);
-    replay::report(b"jacobi", tally);
+    tally::report(b"jacobi", t);
 }

@@ -1,105 +1,143 @@
-// A case of each entry: what the file has is handed in, and what comes back is compared with what the file has next. The buffers lent
-// have the lengths of a case of n; what they hold is to have no effect.
-use dual::DualAnswer;
-use dual_lu::LuAnswer;
-use dual_lu::SolveAnswer;
+// A case of each entry, in buffers of the lengths of a case of n: read, called, compared.
+use crate::over;
 use replay::Place;
-use replay::matrices as data;
-use replay::matrices::Compared;
+use replay::Read;
+use replay::tally::Compared;
+use replay_matrices::Numbers;
 
-// What LU answers, as two numbers: document 01's, and the swap count or the column.
-struct Answered {
-    number: u64,
-    beside: u64,
+// The order and the factors that solve, determinant and inverse are handed.
+fn read_factors(
+    file: i32,
+    buffer: &mut [u8; 4096],
+    place: Place,
+    words: &mut [u64],
+    numbers: &mut [u64],
+    factors: &mut [f64],
+    order: &mut [usize],
+) -> Read {
+    let first = replay::read_words(file, buffer, place, 2, numbers);
+    let place = first.place;
+    let second = replay::read_words(file, buffer, place, 16, words);
+    let place = second.place;
+    let whole = first.whole && second.whole;
+    replay_matrices::order_of(numbers, order);
+    replay_matrices::floats_of(words, factors);
+    Read { place, whole }
 }
 
-fn numbers_of(answer: LuAnswer) -> Answered {
-    match answer {
-        LuAnswer::Done { swaps } => Answered {
-            number: 0,
-            beside: swaps as u64,
-        },
-        LuAnswer::Refused { number, column } => Answered {
-            number: number as u64,
-            beside: column as u64,
-        },
+// The order and the factors that LU left, where it was done.
+fn read_left(
+    file: i32,
+    buffer: &mut [u8; 4096],
+    place: Place,
+    number: u64,
+    words: &mut [u64],
+    numbers: &mut [u64],
+) -> Read {
+    if number != 0 {
+        return Read { place, whole: true };
+    }
+    let first = replay::read_words(file, buffer, place, 2, numbers);
+    let place = first.place;
+    let second = replay::read_words(file, buffer, place, 16, words);
+    let place = second.place;
+    Read {
+        place,
+        whole: first.whole && second.whole,
     }
 }
 
 pub(crate) fn lu(
+    width: usize,
     file: i32,
     buffer: &mut [u8; 4096],
     place: Place,
     n: usize,
+    wanted: Numbers,
+    words: &mut [u64],
+    numbers: &mut [u64],
     a: &mut [f64],
     order: &mut [usize],
     factors: &mut [f64],
 ) -> Compared {
-    let number = replay::next_word(file, buffer, place);
-    let place = number.place;
-    let beside = replay::next_word(file, buffer, place);
-    let place = beside.place;
-    let place = data::read_floats(file, buffer, place, a);
-    let got = numbers_of(dual_lu::lu(n, a, factors, order));
-    let agree = got.number == number.word && got.beside == beside.word;
-    let rest = data::same_factors(file, buffer, place, number.word, factors, order);
-    let place = rest.place;
-    Compared {
-        place,
-        same: agree && rest.same,
-    }
+    let matrix = replay::read_words(file, buffer, place, 16, words);
+    let place = matrix.place;
+    replay_matrices::floats_of(words, a);
+    let left = read_left(file, buffer, place, wanted.number, words, numbers);
+    let place = left.place;
+    let whole = matrix.whole && left.whole;
+    let answer = over::lu(width, n, a, factors, order);
+    let same = replay_matrices::same_lu(wanted, numbers, words, answer, order, factors);
+    Compared { place, whole, same }
 }
 
 pub(crate) fn solve(
+    width: usize,
     file: i32,
     buffer: &mut [u8; 4096],
     place: Place,
     n: usize,
+    words: &mut [u64],
+    numbers: &mut [u64],
     factors: &mut [f64],
     order: &mut [usize],
+    column: &mut [u64],
     b: &mut [f64],
     x: &mut [f64],
 ) -> Compared {
-    let place = data::read_factors(file, buffer, place, factors, order);
-    let place = data::read_floats(file, buffer, place, b);
-    let answer = dual_lu::solve(n, factors, order, b, x);
-    match answer {
-        SolveAnswer::Done => data::same_floats(file, buffer, place, x),
-        SolveAnswer::Refused { number } => Compared { place, same: false },
-    }
+    let given = read_factors(file, buffer, place, words, numbers, factors, order);
+    let place = given.place;
+    let right = replay::read_words(file, buffer, place, 16, column);
+    let place = right.place;
+    replay_matrices::floats_of(column, b);
+    let solution = replay::read_words(file, buffer, place, 16, column);
+    let place = solution.place;
+    let whole = given.whole && right.whole && solution.whole;
+    let answer = over::solve(width, n, factors, order, b, x);
+    let same = replay_matrices::same_solved(column, answer, x);
+    Compared { place, whole, same }
 }
 
 pub(crate) fn determinant(
+    width: usize,
     file: i32,
     buffer: &mut [u8; 4096],
     place: Place,
     n: usize,
+    swaps: u64,
+    words: &mut [u64],
+    numbers: &mut [u64],
     factors: &mut [f64],
     order: &mut [usize],
+    record: &mut [u64],
 ) -> Compared {
-    let swaps = replay::next_word(file, buffer, place);
-    let place = swaps.place;
-    let place = data::read_factors(file, buffer, place, factors, order);
-    let answer = dual_lu::determinant(n, factors, order, swaps.word as usize);
-    match answer {
-        DualAnswer::Value(x) => data::same_floats(file, buffer, place, &[x.re, x.eps]),
-        DualAnswer::Refused(_) => Compared { place, same: false },
-    }
+    let given = read_factors(file, buffer, place, words, numbers, factors, order);
+    let place = given.place;
+    let wanted = replay::read_words(file, buffer, place, 16, record);
+    let place = wanted.place;
+    let whole = given.whole && wanted.whole;
+    let same = over::same_determinant(width, record, n, factors, order, swaps as usize);
+    Compared { place, whole, same }
 }
 
 pub(crate) fn inverse(
+    width: usize,
     file: i32,
     buffer: &mut [u8; 4096],
     place: Place,
     n: usize,
+    words: &mut [u64],
+    numbers: &mut [u64],
     factors: &mut [f64],
     order: &mut [usize],
     out: &mut [f64],
 ) -> Compared {
-    let place = data::read_factors(file, buffer, place, factors, order);
-    let answer = dual_lu::inverse(n, factors, order, out);
-    match answer {
-        SolveAnswer::Done => data::same_floats(file, buffer, place, out),
-        SolveAnswer::Refused { number } => Compared { place, same: false },
-    }
+    let given = read_factors(file, buffer, place, words, numbers, factors, order);
+    let place = given.place;
+    let wanted = replay::read_words(file, buffer, place, 16, words);
+    let place = wanted.place;
+    let whole = given.whole && wanted.whole;
+    let answer = over::inverse(width, n, factors, order, out);
+    let same = replay_matrices::same_solved(words, answer, out);
+    Compared { place, whole, same }
 }

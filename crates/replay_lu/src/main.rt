@@ -1,91 +1,165 @@
-// Replays the recorded answers of LU, solve, determinant and inverse over `Dual`: lu.txt, solve.txt, determinant.txt, inverse.txt.
+// Replays the recorded answers of LU, solve, determinant and inverse, over `Dual` (lu.txt, solve.txt, determinant.txt, inverse.txt) and over `HyperDual`
+// (lu-hyperdual.txt and so on).
 mod entries;
+mod over;
 
 use replay::Place;
-use replay::Tally;
-use replay::matrices as data;
-use replay::matrices::Compared;
+use replay::tally;
+use replay::tally::Compared;
+use replay::tally::Tally;
+use replay_matrices::Numbers;
+ghost use mathlib.Core.Path.{_≡_};
+ghost use Prim.Native.Nat.{_≤_};
+ghost use Rattle.replay_lu.specs.Over.{fieldsOf};
 
-// One case of the entry that a file is of, in buffers of the lengths of n: 0 lu, 1 solve, 2 determinant, 3 inverse.
+// The entry that a file is of.
+const LU: u8 = 0;
+
+const SOLVE: u8 = 1;
+
+const DETERMINANT: u8 = 2;
+
+const INVERSE: u8 = 3;
+
+// How many numbers a case begins with: the size, and for LU the two of its answer, for the determinant the swap count.
+fn fields(entry: u8) -> usize
+    ensures { λ r. ⌜ (r ≡ fieldsOf entry) × (r ≤ 3) ⌝ }
+{
+    match entry {
+        LU => 3,
+        DETERMINANT => 2,
+        _ => 1,
+    }
+}
+
+// One case of size n, in buffers full of what must not stay; first and second are the numbers after the size.
 fn case_of(
     entry: u8,
+    width: usize,
     file: i32,
     buffer: &mut [u8; 4096],
     place: Place,
     n: usize,
-    matrix: &mut [f64],
-    order: &mut [usize],
-    out: &mut [f64],
-    b: &mut [f64],
-    x: &mut [f64],
-) -> Compared {
+    first: u64,
+    second: u64,
+) -> Compared
+    requires { ⌜ (n ≤ 32) × (width ≤ 4) ⌝ }
+{
+    let full = replay_matrices::floats_in(n, width);
+    let wide = n * width;
+    let mut words = [7u64; 4096];
+    let mut numbers = [7u64; 32];
+    let mut matrix = [7.0f64; 4096];
+    let mut order = [7usize; 32];
+    let mut out = [7.0f64; 4096];
+    let mut column = [7u64; 128];
+    let mut b = [7.0f64; 128];
+    let mut x = [7.0f64; 128];
+    let words = &mut words[..full];
+    let numbers = &mut numbers[..n];
+    let matrix = &mut matrix[..full];
+    let order = &mut order[..n];
     match entry {
-        0 => entries::lu(file, buffer, place, n, matrix, order, out),
-        1 => entries::solve(file, buffer, place, n, matrix, order, b, x),
-        2 => entries::determinant(file, buffer, place, n, matrix, order),
-        _ => entries::inverse(file, buffer, place, n, matrix, order, out),
+        LU => {
+            let wanted = Numbers {
+                number: first,
+                beside: second,
+            };
+            let out = &mut out[..full];
+            entries::lu(
+                width, file, buffer, place, n, wanted, words, numbers, matrix, order, out,
+            )
+        }
+        SOLVE => {
+            let column = &mut column[..wide];
+            let b = &mut b[..wide];
+            let x = &mut x[..wide];
+            entries::solve(
+                width, file, buffer, place, n, words, numbers, matrix, order, column, b, x,
+            )
+        }
+        DETERMINANT => {
+            let record = &mut column[..width];
+            entries::determinant(
+                width, file, buffer, place, n, first, words, numbers, matrix, order, record,
+            )
+        }
+        _ => {
+            let out = &mut out[..full];
+            entries::inverse(
+                width, file, buffer, place, n, words, numbers, matrix, order, out,
+            )
+        }
     }
 }
 
-// One case, in buffers full of what must not stay.
-fn case(entry: u8, file: i32, buffer: &mut [u8; 4096], place: Place) -> Compared {
-    let size = data::read_size(file, buffer, place);
-    let place = size.place;
-    if !size.known {
-        return Compared { place, same: false };
+// One case.
+fn case(entry: u8, width: usize, file: i32, buffer: &mut [u8; 4096], place: Place) -> Compared
+    requires { ⌜ width ≤ 4 ⌝ }
+{
+    let mut head = [0u64; 3];
+    let count = fields(entry);
+    let read = replay::read_words(file, buffer, place, 2, &mut head[..count]);
+    let place = read.place;
+    let size = head[0];
+    if !read.whole {
+        return tally::cut(place);
     }
-    let n = size.n;
-    let full = data::floats_of(n);
-    let wide = n * 2;
-    let mut matrix = [7.0f64; 2048];
-    let mut order = [7usize; 32];
-    let mut out = [7.0f64; 2048];
-    let mut b = [7.0f64; 64];
-    let mut x = [7.0f64; 64];
+    if 32 < size {
+        return tally::cut(place);
+    }
     case_of(
         entry,
+        width,
         file,
         buffer,
         place,
-        n,
-        &mut matrix[..full],
-        &mut order[..n],
-        &mut out[..full],
-        &mut b[..wide],
-        &mut x[..wide],
+        size as usize,
+        head[1],
+        head[2],
     )
 }
 
-// The number of cases, and then so many.
-fn cases(entry: u8, file: i32) -> Tally {
+// Every case.
+fn cases(entry: u8, width: usize, file: i32) -> Tally
+    requires { ⌜ width ≤ 4 ⌝ }
+{
     let mut buffer = [0u8; 4096];
-    let count = replay::next_word(file, &mut buffer, replay::start());
-    let mut here = count.place;
-    let mut tally = Tally::new(0, 0);
-    let mut turns = count.word;
-    while turns > 0 {
-        let c = case(entry, file, &mut buffer, here);
-        here = c.place;
-        tally = replay::counted(tally, c.same);
-        turns -= 1;
+    let mut run = tally::begin(file, &mut buffer);
+    while run.left > 0 {
+        let place = run.place;
+        let c = case(entry, width, file, &mut buffer, place);
+        run = tally::after(run, c);
     }
-    tally
+    tally::ended(file, &mut buffer, run)
 }
 
-fn replay_file(entry: u8, path: &[u8], name: &[u8]) {
+// Replays a file, and reports it by a name.
+fn replay_file(entry: u8, width: usize, path: &[u8], name: &[u8])
+    requires { ⌜ width ≤ 4 ⌝ }
+{
     let file = os::open_read(path);
     if file < 0 {
         os::fail(path);
         return;
     }
-    let tally = cases(entry, file);
+    let t = cases(entry, width, file);
     libc::close(file);
-    replay::report(name, tally);
+    tally::report(name, t);
 }
 
 fn main() {
-    replay_file(0, b"lu.txt", b"lu");
-    replay_file(1, b"solve.txt", b"solve");
-    replay_file(2, b"determinant.txt", b"determinant");
-    replay_file(3, b"inverse.txt", b"inverse");
+    replay_file(LU, 2, b"lu.txt", b"lu");
+    replay_file(SOLVE, 2, b"solve.txt", b"solve");
+    replay_file(DETERMINANT, 2, b"determinant.txt", b"determinant");
+    replay_file(INVERSE, 2, b"inverse.txt", b"inverse");
+    replay_file(LU, 4, b"lu-hyperdual.txt", b"hyperdual lu");
+    replay_file(SOLVE, 4, b"solve-hyperdual.txt", b"hyperdual solve");
+    replay_file(
+        DETERMINANT,
+        4,
+        b"determinant-hyperdual.txt",
+        b"hyperdual determinant",
+    );
+    replay_file(INVERSE, 4, b"inverse-hyperdual.txt", b"hyperdual inverse");
 }

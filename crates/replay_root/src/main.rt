@@ -1,43 +1,42 @@
 // Replays the recorded roots: each line is a word and the word of its root.
 use replay::Place;
-use replay::Tally;
-use replay::Word;
+use replay::tally;
+use replay::tally::Compared;
+use replay::tally::Tally;
+ghost use mathlib.Core.Path.{_≡_};
+ghost use lib.Dec.{eqb};
+ghost use lib.Ieee.{binary64, toBits};
 
-// Where the reader stands, and the count so far.
-struct Run {
-    place: Place,
-    tally: Tally,
+// Whether the word is that of the root.
+fn same_root(word: u64, root: f64) -> bool
+    ensures { λ r. ⌜ r ≡ eqb word (toBits binary64 root) ⌝ }
+{
+    word == real::word_of_float(root)
 }
 
 // One line.
-fn line(file: i32, buffer: &mut [u8; 4096], run: Run) -> Run {
-    let start = run.place;
-    let tally = run.tally;
-    let x = replay::next_word(file, buffer, start);
-    let middle = x.place;
-    let wanted = replay::next_word(file, buffer, middle);
-    let place = wanted.place;
-    let got = real::word_of_float(real::sqrt(real::float_of_word(x.word)));
-    let tally = replay::counted(tally, wanted.digits == 16 && got == wanted.word);
-    Run { place, tally }
+fn case(file: i32, buffer: &mut [u8; 4096], place: Place) -> Compared {
+    let mut words = [0u64; 2];
+    let read = replay::read_words(file, buffer, place, 16, &mut words);
+    let place = read.place;
+    let root = real::sqrt(real::float_of_word(words[0]));
+    Compared {
+        place,
+        whole: read.whole,
+        same: same_root(words[1], root),
+    }
 }
 
-// The number of cases, and then so many lines.
-fn all(file: i32) -> Tally {
+// Every line.
+fn cases(file: i32) -> Tally {
     let mut buffer = [0u8; 4096];
-    let count = replay::next_word(file, &mut buffer, replay::start());
-    let place = count.place;
-    let tally = Tally {
-        compared: 0,
-        different: 0,
-    };
-    let mut run = Run { place, tally };
-    let mut turns = count.word;
-    while turns > 0 {
-        run = line(file, &mut buffer, run);
-        turns -= 1;
+    let mut run = tally::begin(file, &mut buffer);
+    while run.left > 0 {
+        let place = run.place;
+        let c = case(file, &mut buffer, place);
+        run = tally::after(run, c);
     }
-    run.tally
+    tally::ended(file, &mut buffer, run)
 }
 
 fn main() {
@@ -46,7 +45,7 @@ fn main() {
         os::fail(b"root.txt");
         return;
     }
-    let tally = all(file);
+    let t = cases(file);
     libc::close(file);
-    replay::report(b"root", tally);
+    tally::report(b"root", t);
 }

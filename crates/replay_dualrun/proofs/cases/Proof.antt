@@ -1,22 +1,17 @@
--- `replay_dualrun::cases` ends: turns are counted down. Assumes nothing.
+-- Fewer cases are left after each. Assumes nothing.
+use Rattle.replay.proofs.Falls.{falls}
 use borrow.Author.Needs.{needs}
 use Rattle.replay_dualrun.proofs.cases.Statement.{statement}
 use Rattle.replay_dualrun.proofs.cases.Tie as tie
 
 abbrev Inv-loop : tie.InvT-loop
-Inv-loop file buffer₀ here₀ tally₀ turns₀ buffer here tally turns = Unit {0}
+Inv-loop file buffer₀ run₀ buffer run = Unit {0}
 
 abbrev μ-loop : tie.MeasureT-loop
-μ-loop file buffer₀ here₀ tally₀ turns₀ buffer here tally turns = turns
+μ-loop file buffer₀ run₀ buffer run = run .left
 
-start-requires : tie.Need-start-requires Inv-loop μ-loop
-start-requires c κs = search needs
-
-next-word-requires : tie.Need-next-word-requires Inv-loop μ-loop
-next-word-requires c κs = search needs
-
-new-requires : tie.Need-new-requires Inv-loop μ-loop
-new-requires c κs = search needs
+begin-requires : tie.Need-begin-requires Inv-loop μ-loop
+begin-requires c κs = search needs
 
 loop-holds : tie.Need-loop-holds Inv-loop μ-loop
 loop-holds c = search needs
@@ -24,29 +19,20 @@ loop-holds c = search needs
 case-requires : tie.Need-case-requires Inv-loop μ-loop
 case-requires c κs = search needs
 
-counted-requires : tie.Need-counted-requires Inv-loop μ-loop
-counted-requires c κs = search needs
-
-sub-turns : tie.Need-sub-turns Inv-loop μ-loop
-sub-turns c = search needs
+after-requires : tie.Need-after-requires Inv-loop μ-loop
+after-requires c κs = search needs
 
 loop-less : tie.Need-loop-less Inv-loop μ-loop
-loop-less c = search needs
+loop-less c = falls _ _ _ (search needs) (c .after .ensures)
 
 loop-again : tie.Need-loop-again Inv-loop μ-loop
 loop-again c = search needs
 
-next-word-requires-2 : tie.Need-next-word-requires-2 Inv-loop μ-loop
-next-word-requires-2 c κs = search needs
-
-counted-requires-2 : tie.Need-counted-requires-2 Inv-loop μ-loop
-counted-requires-2 c κs = search needs
+ended-requires : tie.Need-ended-requires Inv-loop μ-loop
+ended-requires c κs = search needs
 
 returns : tie.Need-returns Inv-loop μ-loop
 returns c = search needs
-
-returns-2 : tie.Need-returns-2 Inv-loop μ-loop
-returns-2 c = search needs
 
 pub cases-spec : {M : Type 1} → statement M
 cases-spec =
@@ -54,16 +40,11 @@ cases-spec =
     (tie.spec
     Inv-loop
     μ-loop
-    start-requires
-    next-word-requires
-    new-requires
+    begin-requires
     loop-holds
     case-requires
-    counted-requires
-    sub-turns
+    after-requires
     loop-less
     loop-again
-    next-word-requires-2
-    counted-requires-2
-    returns
-    returns-2)
+    ended-requires
+    returns)

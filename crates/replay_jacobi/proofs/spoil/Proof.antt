@@ -1,35 +1,55 @@
--- `replay_jacobi::spoil` stays within its slice and ends. Assumes nothing.
-use Prim.Native.Nat.{_≤_, _-_, _*_}
-use mathlib.Core.Path.{_≡_}
-use lib.ListN.{length, length-set}
+-- What was passed is spoiled, what is to come is as it was. Assumes nothing.
+use Prim.Native.Nat.{ℕ, _+_, _-_, _≤_, _<_}
+use mathlib.Core.Path.{_≡_, refl, sym, ap, _∙_}
+use mathlib.Core.List.{List}
+use denote.Ref.{now}
+use lib.ListN.{length, getD, set, length-set}
+use lib.Seq.{getD-set-other}
+use lib.Ieee.{Float, nan}
 use native.Mathlib.Omega.{arith}
+use Rattle.algebra.specs.Flat.{tabulate}
+use Rattle.algebra.proofs.Flat.{tabulate-length, tabulate-at}
+use Rattle.matrices.proofs.Fill.{Filled, filled-more, filled-all}
+use Rattle.replay_jacobi.specs.Runs.{spoiledAt, spoiledOf}
 use borrow.Author.Needs.{needs}
 use Rattle.replay_jacobi.proofs.spoil.Statement.{statement}
 use Rattle.replay_jacobi.proofs.spoil.Tie as tie
 
+record Spoiling (n : ℕ) (l a : List Float) (k : ℕ) : Type 0 where
+  long : length a ≡ length l
+  filled : Filled nan (λ j. spoiledAt n j (getD l j nan)) a k
+  rest : (j : ℕ) → k ≤ j → getD a j nan ≡ getD l j nan
+
+turn : (n : ℕ) (l a : List Float) (k : ℕ) → Spoiling n l a k → (x : Float) → k < length a → x ≡ spoiledAt n k (getD a k nan) → Spoiling n l (set a k x) (k + 1)
+turn n l a k s x h e =
+    let x-is : x ≡ spoiledAt n k (getD l k nan) = e ∙ ap (spoiledAt n k) (s .rest k (omega arith)) in
+    record {
+      long = simp length-set (s .long);
+      filled = rw x-is (filled-more nan (λ j. spoiledAt n j (getD l j nan)) a k h (s .filled));
+      rest = λ j lt. getD-set-other a k j x nan (omega arith) ∙ s .rest j (omega arith);
+    }
+
+all : (n : ℕ) (l a : List Float) (k : ℕ) → Spoiling n l a k → length a ≤ k → a ≡ spoiledOf n l
+unfolding spoiledOf
+all n l a k s h =
+    let g : ℕ → Float = λ j. spoiledAt n j (getD l j nan) in
+    filled-all nan g a (tabulate g (length l) 0) k h (s .long ∙ sym (tabulate-length g (length l) 0)) (s .filled)
+    (λ j lt. tabulate-at g (length l) 0 j nan (omega (arith, s .long)) ∙ ap g (omega arith))
+
 abbrev Inv-loop : tie.InvT-loop
-Inv-loop n a₀ count k₀ a k = (k ≤ count) × ((count * 2 ≤ length a) × (length a ≡ length a₀))
+Inv-loop n a₀ k₀ a k = Spoiling n a₀ a k
 
 abbrev μ-loop : tie.MeasureT-loop
-μ-loop n a₀ count k₀ a k = count - k
+μ-loop n a₀ k₀ a k = length a₀ - k
 
 loop-holds : tie.Need-loop-holds Inv-loop μ-loop
-loop-holds c = search needs
-
-mul-re : tie.Need-mul-re Inv-loop μ-loop
-mul-re c = search needs
-
-add-eps : tie.Need-add-eps Inv-loop μ-loop
-add-eps c = search needs
+loop-holds c = record { long = refl; filled = λ j h. absurd (omega arith); rest = λ j h. refl }
 
 mul-spoiled : tie.Need-mul-spoiled Inv-loop μ-loop
 mul-spoiled c = search needs
 
 slice-read-spoiled : tie.Need-slice-read-spoiled Inv-loop μ-loop
 slice-read-spoiled c = search needs
-
-float-of-word-requires : tie.Need-float-of-word-requires Inv-loop μ-loop
-float-of-word-requires c κs = search needs
 
 spoiled-requires : tie.Need-spoiled-requires Inv-loop μ-loop
 spoiled-requires c κs = search needs
@@ -40,35 +60,20 @@ mul-a c = search needs
 slice-write-a : tie.Need-slice-write-a Inv-loop μ-loop
 slice-write-a c = search needs
 
-mul-spoiled-2 : tie.Need-mul-spoiled-2 Inv-loop μ-loop
-mul-spoiled-2 c = search needs
-
-slice-read-spoiled-2 : tie.Need-slice-read-spoiled-2 Inv-loop μ-loop
-slice-read-spoiled-2 c = simp length-set (omega arith)
-
-spoiled-requires-2 : tie.Need-spoiled-requires-2 Inv-loop μ-loop
-spoiled-requires-2 c κs = search needs
-
-mul-a-2 : tie.Need-mul-a-2 Inv-loop μ-loop
-mul-a-2 c = search needs
-
-slice-write-a-2 : tie.Need-slice-write-a-2 Inv-loop μ-loop
-slice-write-a-2 c = simp length-set (omega arith)
-
 add-k : tie.Need-add-k Inv-loop μ-loop
 add-k c = search needs
 
 loop-less : tie.Need-loop-less Inv-loop μ-loop
-loop-less c = omega arith
+loop-less c = omega (arith, c .before .before .before .loop .inv .long)
 
 loop-again : tie.Need-loop-again Inv-loop μ-loop
-loop-again c = simp length-set (omega arith)
+loop-again c = turn _ _ _ _ (c .before .before .before .loop .inv) _ (search needs) (c .spoiled .ensures)
 
 same-length : tie.Need-same-length Inv-loop μ-loop
-same-length c = search needs
+same-length c = c .before .loop .inv .long
 
 returns : tie.Need-returns Inv-loop μ-loop
-returns c = search needs
+returns c = all _ _ _ _ (c .before .loop .inv) (c .loop-test .left)
 
 pub spoil-spec : {M : Type 1} → statement M
 spoil-spec =
@@ -77,19 +82,11 @@ spoil-spec =
     Inv-loop
     μ-loop
     loop-holds
-    mul-re
-    add-eps
     mul-spoiled
     slice-read-spoiled
-    float-of-word-requires
     spoiled-requires
     mul-a
     slice-write-a
-    mul-spoiled-2
-    slice-read-spoiled-2
-    spoiled-requires-2
-    mul-a-2
-    slice-write-a-2
     add-k
     loop-less
     loop-again

@@ -1,0 +1,3 @@
+-- Laws that the proofs cite, here and in the programs.
+pub mod Alike
+pub mod Falls

@@ -1,0 +1,35 @@
+-- By whether it was read whole. Assumes nothing.
+use Prim.Native.Nat.{_-_}
+use mathlib.Core.Path.{_≡_}
+use native.Mathlib.Omega.{arith}
+use Rattle.replay.specs.Tally.{afterOf}
+use borrow.Author.Needs.{needs}
+use Rattle.replay.proofs.tally.after.Statement.{statement}
+use Rattle.replay.proofs.tally.after.Tie as tie
+
+counted-requires : tie.Need-counted-requires
+counted-requires c κs = search needs
+
+sub-t13 : tie.Need-sub-t13
+sub-t13 c = search needs
+
+returns : tie.Need-returns
+unfolding afterOf
+returns c = rw (c .before .before .if1 .taken, c .before .counted .ensures)
+
+returns-2 : tie.Need-returns-2
+unfolding afterOf
+returns-2 c =
+    let none : c .before .before .before .before .before .args .run .left - 1 ≡ 0 = omega arith in
+    rw (c .before .before .if1 .taken, c .before .counted .ensures, none)
+
+counted-requires-2 : tie.Need-counted-requires-2
+counted-requires-2 c κs = search needs
+
+returns-3 : tie.Need-returns-3
+unfolding afterOf
+returns-3 c = simp (c .before .if1 .left, c .counted2 .ensures)
+
+pub after-spec : {M : Type 1} → statement M
+after-spec =
+    tie.close (tie.spec counted-requires sub-t13 returns returns-2 counted-requires-2 returns-3)

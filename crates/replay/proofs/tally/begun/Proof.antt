@@ -1,0 +1,19 @@
+-- By whether it was read whole. Assumes nothing.
+use Rattle.replay.specs.Tally.{begunOf}
+use borrow.Author.Needs.{needs}
+use Rattle.replay.proofs.tally.begun.Statement.{statement}
+use Rattle.replay.proofs.tally.begun.Tie as tie
+
+returns : tie.Need-returns
+unfolding begunOf
+returns c = simp (c .if1 .taken)
+
+counted-requires : tie.Need-counted-requires
+counted-requires c κs = search needs
+
+returns-2 : tie.Need-returns-2
+unfolding begunOf
+returns-2 c = simp (c .before .if1 .left, c .counted .ensures)
+
+pub begun-spec : {M : Type 1} → statement M
+begun-spec = tie.close (tie.spec returns counted-requires returns-2)

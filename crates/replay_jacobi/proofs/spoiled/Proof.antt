@@ -1,0 +1,36 @@
+-- Each answer by the tests that led to it. Assumes nothing.
+use borrow.Author.Tests.{eq-eqb, ne-eqb, le-leb, lt-leb}
+use Rattle.replay_jacobi.specs.Runs.{spoiledAt}
+use borrow.Author.Needs.{needs}
+use Rattle.replay_jacobi.proofs.spoiled.Statement.{statement}
+use Rattle.replay_jacobi.proofs.spoiled.Tie as tie
+
+returns : tie.Need-returns
+unfolding spoiledAt
+returns c = simp (eq-eqb _ _ (c .if1 .taken))
+
+div-if2 : tie.Need-div-if2
+div-if2 c = search needs
+
+rem-if2 : tie.Need-rem-if2
+rem-if2 c = search needs
+
+returns-2 : tie.Need-returns-2
+unfolding spoiledAt
+returns-2 c = simp (ne-eqb _ _ (c .before .if1 .left), le-leb _ _ (c .if2 .taken))
+
+float-of-word-requires : tie.Need-float-of-word-requires
+float-of-word-requires c κs = search needs
+
+returns-3 : tie.Need-returns-3
+unfolding spoiledAt
+returns-3 c = rw (c .float-of-word .ensures, ne-eqb _ _ (c .before .before .before .if1 .left), lt-leb _ _ (c .before .before .if2 .left), eq-eqb _ _ (c .before .if3 .taken))
+
+returns-4 : tie.Need-returns-4
+unfolding spoiledAt
+returns-4 c = simp (ne-eqb _ _ (c .before .before .if1 .left), lt-leb _ _ (c .before .if2 .left), ne-eqb _ _ (c .if3 .left))
+
+pub spoiled-spec : {M : Type 1} → statement M
+spoiled-spec =
+    tie.close
+    (tie.spec returns div-if2 rem-if2 returns-2 float-of-word-requires returns-3 returns-4)

@@ -1,0 +1,2 @@
+-- The two records that the matrices are replayed over. Definitions only.
+pub mod Over

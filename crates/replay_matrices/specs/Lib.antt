@@ -1,0 +1,2 @@
+-- When a case of the matrices' files is the same. Definitions only.
+pub mod Cases

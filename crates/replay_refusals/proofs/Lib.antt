@@ -1,0 +1,2 @@
+-- What the refusals' replay is proved with.
+pub mod Join
