@@ -247,8 +247,11 @@ def main():
         if open(path, "rb").read() != data:
             sys.exit("damaged.txt is not what compare/texts.py writes")
         print("the damaged texts are those in the repository")
+    elif sys.argv[1:] in (["-h"], ["--help"]):
+        print(__doc__)
     elif sys.argv[1:]:
-        sys.exit(__doc__)
+        print(f"compare/texts.py: '{' '.join(sys.argv[1:])}' is no argument of it\n\n{__doc__}", file=sys.stderr)
+        sys.exit(2)
     else:
         open(path, "wb").write(data)
         print(f"{len(recorded())} texts, {len(data)} bytes")
