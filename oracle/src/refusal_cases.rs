@@ -10,7 +10,7 @@ const LONGEST: u64 = 4 * 34 * 34 + 1;
 #[rustfmt::skip]
 pub enum Entry {
     Lu = 1, Solve = 2, Determinant = 3, Inverse = 4, Jacobi = 5,
-    ByNumber = 6, Operator = 7, Sum = 8, Product = 9,
+    ByNumber = 6, Operator = 7, Sum = 8, Product = 9, RootOfWord = 0xa, Root = 0xb,
     HyperDualLu = 0x11, HyperDualSolve = 0x12, HyperDualDeterminant = 0x13, HyperDualInverse = 0x14,
 }
 use Entry::*;
@@ -20,7 +20,7 @@ use Entry::*;
 #[derive(Copy, Clone)]
 pub struct Case {
     pub entry: Entry,
-    /// The size, or the kind of record.
+    /// The size, the kind of record, or the word of a float.
     pub n: u64,
     /// Inputs are all 1.0 (0), or whole numbers from -15 to 15 (1).
     pub style: u64,
@@ -46,6 +46,7 @@ pub fn cases() -> Vec<Case> {
     all.extend(record_cases());
     all.extend(operator_cases());
     all.extend(run_cases());
+    all.extend(root_cases());
     all.into_iter().filter(|case| case.lengths().iter().all(|length| *length <= LONGEST)).collect()
 }
 
@@ -117,6 +118,7 @@ impl Case {
             Jacobi => &[0, 3, 4],
             ByNumber => &[0, 1, 3],
             Operator | Sum | Product => &[0, 3],
+            RootOfWord | Root => &[],
         }
     }
 
@@ -334,25 +336,29 @@ fn unknown_cases() -> Vec<Case> {
     all
 }
 
+/// The widths that a call of this kind is tried with: its own; of a kind that is none, every one.
+fn widths(kind: u64) -> Vec<u64> {
+    parts(kind).map_or(vec![2, 3, 4, 8], |width| vec![width])
+}
+
 fn operator_cases() -> Vec<Case> {
     let mut all = vec![];
-    for kind in KINDS {
-        let width = parts(kind).unwrap_or(4);
-        for function in 9..13 {
-            let call = |first, result| Case {
-                entry: Operator,
-                ..record_call(kind, function, [first, 0, result])
-            };
+    for (kind, function) in KINDS.into_iter().flat_map(|kind| (9..13).map(move |f| (kind, f))) {
+        let call = |first, result| Case {
+            entry: Operator,
+            ..record_call(kind, function, [first, 0, result])
+        };
+        for width in widths(kind) {
+            all.push(call(2 * width, width));
+        }
+        if let Some(width) = parts(kind) {
             let right = call(2 * width, width);
-            all.push(right);
-            if parts(kind).is_some() {
-                all.extend([
-                    Case { style: 0, ..right },
-                    call(width, 2 * width),
-                    call(width, width - 1),
-                ]);
-                all.extend(right.wrong_lengths(&[call(3 * width, 2 * width), call(4, 2)]));
-            }
+            all.extend([
+                Case { style: 0, ..right },
+                call(width, 2 * width),
+                call(width, width - 1),
+            ]);
+            all.extend(right.wrong_lengths(&[call(3 * width, 2 * width), call(4, 2)]));
         }
     }
     all
@@ -360,15 +366,25 @@ fn operator_cases() -> Vec<Case> {
 
 fn run_cases() -> Vec<Case> {
     let mut all = vec![];
-    for kind in KINDS {
-        let width = parts(kind).unwrap_or(4);
-        for entry in [Sum, Product] {
-            let call = |run, out| Case { entry, ..record_call(kind, 0, [run, 0, out]) };
-            let longest = if parts(kind).is_some() { 3 * width + 1 } else { 0 };
-            all.extend((0..=longest).map(|run| call(run, width)));
-            all.extend([width, width - 1, width + 1, 0].map(|out| call(2 * width, out)));
+    for (kind, entry) in KINDS.into_iter().flat_map(|kind| [(kind, Sum), (kind, Product)]) {
+        let call = |run, out| Case { entry, ..record_call(kind, 0, [run, 0, out]) };
+        for width in widths(kind) {
+            all.extend([call(0, width), call(2 * width, width)]);
+        }
+        if let Some(width) = parts(kind) {
+            all.extend((0..=3 * width + 1).map(|run| call(run, width)));
+            all.extend([width - 1, width + 1, 0].map(|out| call(2 * width, out)));
             all.push(call(2 * width + 1, width + 1));
         }
     }
     all
+}
+
+/// The exports' root, by words and by floats: each of document 01's cases, and NaNs of other bits.
+fn root_cases() -> Vec<Case> {
+    let floats = [0.0, -0.0, 1.0, 2.0, 49.0, -1.0, f64::MIN_POSITIVE, f64::MAX, f64::INFINITY];
+    let words = [1, 0x8000_0000_0000_0001, 0xfff0_0000_0000_0000, 0x7ff0_0000_0000_0001, u64::MAX];
+    let words = floats.map(f64::to_bits).into_iter().chain(words);
+    let case = |entry, n| Case { entry, n, ..record_call(0, 0, [0, 0, 0]) };
+    words.flat_map(|n| [case(RootOfWord, n), case(Root, n)]).collect()
 }

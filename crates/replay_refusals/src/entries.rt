@@ -280,11 +280,24 @@ fn call_over_words(c: &[u64; 16]) -> Outcome {
     )
 }
 
-// By the entry: a record's functions and operators take words, all others floats.
+// The root, by words or by floats.
+fn root(c: &[u64; 16], by_word: bool) -> Outcome {
+    let word = c[1];
+    let x = if by_word {
+        exports::root::evindrast_sqrt_word(word)
+    } else {
+        real::word_of_float(exports::root::evindrast_sqrt(real::float_of_word(word)))
+    };
+    unaccompanied(0, x)
+}
+
+// By the entry: a record's functions and operators take words, the root nothing that is lent, all others floats.
 pub(crate) fn call(c: &[u64; 16]) -> Outcome {
     let entry = c[0];
     match entry {
         0x06 | 0x07 => call_over_words(c),
+        0x0a => root(c, true),
+        0x0b => root(c, false),
         _ => call_over_floats(c),
     }
 }
