@@ -1,8 +1,10 @@
-// `Dual`.
+// `Dual`: the record of the words, and what its methods answer.
 use calls::words;
 use dual::Dual;
 ghost use mathlib.Core.Path.{_≡_};
-ghost use Rattle.dual.specs.Rules.{dual, dualAlgebra, dualLayout};
+ghost use Rattle.algebra.specs.Flat.{recordAt};
+ghost use Rattle.calls.specs.Words.{floatsOf};
+ghost use Rattle.dual.specs.Rules.{dualAlgebra, dualLayout};
 ghost use Rattle.replay_matrices.specs.Cases.{sameFloats};
 ghost use Rattle.replay_methods.specs.Methods.{floatAt, sameMethod};
 
@@ -35,16 +37,11 @@ fn same_method(function: u64, x: Dual, y: Dual, a: f64, wanted: &[u64]) -> bool
     }
 }
 
+// Whether the method of that function, of the records that the words hold, gives the file's answer.
 pub fn same(function: u64, records: &[u64], floats: &[u64], wanted: &[u64]) -> bool
-    ensures { λ r. ⌜ r ≡ sameMethod dualAlgebra dualLayout function (dual (floatAt (now (records .entry)) 0) (floatAt (now (records .entry)) 1)) (dual (floatAt (now (records .entry)) 2) (floatAt (now (records .entry)) 3)) (floatAt (now (floats .entry)) 0) (now (wanted .entry)) ⌝ }
+    ensures { λ r. ⌜ r ≡ sameMethod dualAlgebra dualLayout function (recordAt dualLayout (floatsOf (now (records .entry))) 0) (recordAt dualLayout (floatsOf (now (records .entry))) 1) (floatAt (now (floats .entry)) 0) (now (wanted .entry)) ⌝ }
 {
-    let x = Dual::new(
-        words::part(records, 0),
-        words::part(records, 1),
-    );
-    let y = Dual::new(
-        words::part(records, 2),
-        words::part(records, 3),
-    );
+    let x = Dual::new(words::part(records, 0), words::part(records, 1));
+    let y = Dual::new(words::part(records, 2), words::part(records, 3));
     same_method(function, x, y, words::part(floats, 0), wanted)
 }

@@ -1,8 +1,10 @@
-// `Dual3`.
+// `Dual3`: the record of the words, and what its methods answer.
 use calls::words;
 use dual3::Dual3;
 ghost use mathlib.Core.Path.{_≡_};
-ghost use Rattle.dual3.specs.Rules.{dual3, dual3Algebra, dual3Layout};
+ghost use Rattle.algebra.specs.Flat.{recordAt};
+ghost use Rattle.calls.specs.Words.{floatsOf};
+ghost use Rattle.dual3.specs.Rules.{dual3Algebra, dual3Layout};
 ghost use Rattle.replay_matrices.specs.Cases.{sameFloats};
 ghost use Rattle.replay_methods.specs.Methods.{floatAt, sameMethod};
 
@@ -35,8 +37,9 @@ fn same_method(function: u64, x: Dual3, y: Dual3, a: f64, wanted: &[u64]) -> boo
     }
 }
 
+// Whether the method of that function, of the records that the words hold, gives the file's answer.
 pub fn same(function: u64, records: &[u64], floats: &[u64], wanted: &[u64]) -> bool
-    ensures { λ r. ⌜ r ≡ sameMethod dual3Algebra dual3Layout function (dual3 (floatAt (now (records .entry)) 0) (floatAt (now (records .entry)) 1) (floatAt (now (records .entry)) 2) (floatAt (now (records .entry)) 3)) (dual3 (floatAt (now (records .entry)) 4) (floatAt (now (records .entry)) 5) (floatAt (now (records .entry)) 6) (floatAt (now (records .entry)) 7)) (floatAt (now (floats .entry)) 0) (now (wanted .entry)) ⌝ }
+    ensures { λ r. ⌜ r ≡ sameMethod dual3Algebra dual3Layout function (recordAt dual3Layout (floatsOf (now (records .entry))) 0) (recordAt dual3Layout (floatsOf (now (records .entry))) 1) (floatAt (now (floats .entry)) 0) (now (wanted .entry)) ⌝ }
 {
     let x = Dual3::new(
         words::part(records, 0),

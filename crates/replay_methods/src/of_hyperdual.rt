@@ -1,8 +1,10 @@
-// `HyperDual`.
+// `HyperDual`: the record of the words, and what its methods answer.
 use calls::words;
 use hyperdual::HyperDual;
 ghost use mathlib.Core.Path.{_≡_};
-ghost use Rattle.hyperdual.specs.Rules.{hyperDual, hyperDualAlgebra, hyperDualLayout};
+ghost use Rattle.algebra.specs.Flat.{recordAt};
+ghost use Rattle.calls.specs.Words.{floatsOf};
+ghost use Rattle.hyperdual.specs.Rules.{hyperDualAlgebra, hyperDualLayout};
 ghost use Rattle.replay_matrices.specs.Cases.{sameFloats};
 ghost use Rattle.replay_methods.specs.Methods.{floatAt, sameMethod};
 
@@ -35,8 +37,9 @@ fn same_method(function: u64, x: HyperDual, y: HyperDual, a: f64, wanted: &[u64]
     }
 }
 
+// Whether the method of that function, of the records that the words hold, gives the file's answer.
 pub fn same(function: u64, records: &[u64], floats: &[u64], wanted: &[u64]) -> bool
-    ensures { λ r. ⌜ r ≡ sameMethod hyperDualAlgebra hyperDualLayout function (hyperDual (floatAt (now (records .entry)) 0) (floatAt (now (records .entry)) 1) (floatAt (now (records .entry)) 2) (floatAt (now (records .entry)) 3)) (hyperDual (floatAt (now (records .entry)) 4) (floatAt (now (records .entry)) 5) (floatAt (now (records .entry)) 6) (floatAt (now (records .entry)) 7)) (floatAt (now (floats .entry)) 0) (now (wanted .entry)) ⌝ }
+    ensures { λ r. ⌜ r ≡ sameMethod hyperDualAlgebra hyperDualLayout function (recordAt hyperDualLayout (floatsOf (now (records .entry))) 0) (recordAt hyperDualLayout (floatsOf (now (records .entry))) 1) (floatAt (now (floats .entry)) 0) (now (wanted .entry)) ⌝ }
 {
     let x = HyperDual::new(
         words::part(records, 0),

@@ -1,15 +1,29 @@
-// `HyperHyperDual`.
+// `HyperHyperDual`: the record of the words, and what its methods answer.
 use calls::words;
 use hyperhyperdual::HyperHyperDual;
 ghost use mathlib.Core.Path.{_≡_};
-ghost use Rattle.hyperhyperdual.specs.Rules.{hyperHyperDual, hyperHyperDualAlgebra, hyperHyperDualLayout};
+ghost use Rattle.algebra.specs.Flat.{recordAt};
+ghost use Rattle.calls.specs.Words.{floatsOf};
+ghost use Rattle.hyperhyperdual.specs.Rules.{hyperHyperDualAlgebra, hyperHyperDualLayout};
 ghost use Rattle.replay_matrices.specs.Cases.{sameFloats};
 ghost use Rattle.replay_methods.specs.Methods.{floatAt, sameMethod};
 
 fn same_record(wanted: &[u64], x: HyperHyperDual) -> bool
     ensures { λ r. ⌜ r ≡ sameFloats (now (wanted .entry)) (hyperHyperDualLayout .parts x) ⌝ }
 {
-    replay_matrices::same_floats(wanted, &[x.re, x.eps1, x.eps2, x.eps3, x.eps1eps2, x.eps1eps3, x.eps2eps3, x.eps1eps2eps3])
+    replay_matrices::same_floats(
+        wanted,
+        &[
+            x.re,
+            x.eps1,
+            x.eps2,
+            x.eps3,
+            x.eps1eps2,
+            x.eps1eps3,
+            x.eps2eps3,
+            x.eps1eps2eps3,
+        ],
+    )
 }
 
 fn same_method(function: u64, x: HyperHyperDual, y: HyperHyperDual, a: f64, wanted: &[u64]) -> bool
@@ -35,8 +49,9 @@ fn same_method(function: u64, x: HyperHyperDual, y: HyperHyperDual, a: f64, want
     }
 }
 
+// Whether the method of that function, of the records that the words hold, gives the file's answer.
 pub fn same(function: u64, records: &[u64], floats: &[u64], wanted: &[u64]) -> bool
-    ensures { λ r. ⌜ r ≡ sameMethod hyperHyperDualAlgebra hyperHyperDualLayout function (hyperHyperDual (floatAt (now (records .entry)) 0) (floatAt (now (records .entry)) 1) (floatAt (now (records .entry)) 2) (floatAt (now (records .entry)) 3) (floatAt (now (records .entry)) 4) (floatAt (now (records .entry)) 5) (floatAt (now (records .entry)) 6) (floatAt (now (records .entry)) 7)) (hyperHyperDual (floatAt (now (records .entry)) 8) (floatAt (now (records .entry)) 9) (floatAt (now (records .entry)) 10) (floatAt (now (records .entry)) 11) (floatAt (now (records .entry)) 12) (floatAt (now (records .entry)) 13) (floatAt (now (records .entry)) 14) (floatAt (now (records .entry)) 15)) (floatAt (now (floats .entry)) 0) (now (wanted .entry)) ⌝ }
+    ensures { λ r. ⌜ r ≡ sameMethod hyperHyperDualAlgebra hyperHyperDualLayout function (recordAt hyperHyperDualLayout (floatsOf (now (records .entry))) 0) (recordAt hyperHyperDualLayout (floatsOf (now (records .entry))) 1) (floatAt (now (floats .entry)) 0) (now (wanted .entry)) ⌝ }
 {
     let x = HyperHyperDual::new(
         words::part(records, 0),

@@ -13,23 +13,23 @@ use Rattle.replay_table.specs.declared.Shape.{Shape}
 -- (0: it is a whole number)
 abbrev pub table : List ℕ
 table =
-    0x0000 ∷ -- 00: no function
-    0x0001 ∷ 0x0001 ∷ 0x0000 ∷ 0x0011 ∷ -- 01: zero, one, NDERIV, from_re
-    0x1001 ∷ 0x1001 ∷ 0x1001 ∷ 0x1001 ∷ -- 05: derivative, derivative1, derivative2, derivative3
-    0x2001 ∷ 0x2001 ∷ 0x2001 ∷ 0x2001 ∷ 0x1001 ∷ -- 09: add, sub, mul, div, neg
-    0x1011 ∷ 0x1011 ∷ 0x1011 ∷ 0x1011 ∷ 0x1011 ∷ -- 0e: times, divided by, plus, minus a float; scale
-    0x0000 ∷ 0x0000 ∷ -- 13: no function
-    0x1001 ∷ 0x1001 ∷ 0x2001 ∷ -- 15: abs, signum, abs_sub
-    0x1001 ∷ 0x1001 ∷ 0x1001 ∷ 0x1111 ∷ 0x1021 ∷ -- 18: recip, inv, sqrt, powi, powf
-    0x1011 ∷ 0x1011 ∷ 0x1011 ∷ 0x1021 ∷ -- 1d: cbrt, exp, exp2, exp_m1
-    0x1011 ∷ 0x1021 ∷ 0x1011 ∷ 0x1011 ∷ 0x1011 ∷ -- 21: ln, log, log2, log10, ln_1p
-    0x1021 ∷ 0x1021 ∷ 0x1022 ∷ 0x1021 ∷ -- 26: sin, cos, sin_cos, tan
-    0x1011 ∷ 0x1011 ∷ 0x1011 ∷ 0x2021 ∷ -- 2a: asin, acos, atan, atan2
-    0x1021 ∷ 0x1021 ∷ 0x1021 ∷ 0x1011 ∷ 0x1011 ∷ 0x1011 ∷ -- 2e: sinh, cosh, tanh, asinh, acosh, atanh
-    0x1021 ∷ 0x1021 ∷ 0x1021 ∷ 0x3001 ∷ 0x2021 ∷ -- 34: sph_j0, sph_j1, sph_j2, mul_add, powd
-    0xf001 ∷ 0xf001 ∷ -- 39: sum, product
-    0x2000 ∷ 0x2000 ∷ 0x2000 ∷ 0x2000 ∷ 0x2000 ∷ -- 3b: eq, lt, le, gt, ge
-    0x1000 ∷ 0x1000 ∷ 0x1000 ∷ 0x1000 ∷ -- 40: is_negative, is_positive, is_zero, is_one
+    0x0000 ∷  -- 00: no function
+    0x0001 ∷ 0x0001 ∷ 0x0000 ∷ 0x0011 ∷  -- 01: zero, one, NDERIV, from_re
+    0x1001 ∷ 0x1001 ∷ 0x1001 ∷ 0x1001 ∷  -- 05: derivative, derivative1, derivative2, derivative3
+    0x2001 ∷ 0x2001 ∷ 0x2001 ∷ 0x2001 ∷ 0x1001 ∷  -- 09: add, sub, mul, div, neg
+    0x1011 ∷ 0x1011 ∷ 0x1011 ∷ 0x1011 ∷ 0x1011 ∷  -- 0e: times, divided by, plus, minus a float; scale
+    0x0000 ∷ 0x0000 ∷  -- 13: no function
+    0x1001 ∷ 0x1001 ∷ 0x2001 ∷  -- 15: abs, signum, abs_sub
+    0x1001 ∷ 0x1001 ∷ 0x1001 ∷ 0x1111 ∷ 0x1021 ∷  -- 18: recip, inv, sqrt, powi, powf
+    0x1011 ∷ 0x1011 ∷ 0x1011 ∷ 0x1021 ∷  -- 1d: cbrt, exp, exp2, exp_m1
+    0x1011 ∷ 0x1021 ∷ 0x1011 ∷ 0x1011 ∷ 0x1011 ∷  -- 21: ln, log, log2, log10, ln_1p
+    0x1021 ∷ 0x1021 ∷ 0x1022 ∷ 0x1021 ∷  -- 26: sin, cos, sin_cos, tan
+    0x1011 ∷ 0x1011 ∷ 0x1011 ∷ 0x2021 ∷  -- 2a: asin, acos, atan, atan2
+    0x1021 ∷ 0x1021 ∷ 0x1021 ∷ 0x1011 ∷ 0x1011 ∷ 0x1011 ∷  -- 2e: sinh, cosh, tanh, asinh, acosh, atanh
+    0x1021 ∷ 0x1021 ∷ 0x1021 ∷ 0x3001 ∷ 0x2021 ∷  -- 34: sph_j0, sph_j1, sph_j2, mul_add, powd
+    0xf001 ∷ 0xf001 ∷  -- 39: sum, product
+    0x2000 ∷ 0x2000 ∷ 0x2000 ∷ 0x2000 ∷ 0x2000 ∷  -- 3b: eq, lt, le, gt, ge
+    0x1000 ∷ 0x1000 ∷ 0x1000 ∷ 0x1000 ∷  -- 40: is_negative, is_positive, is_zero, is_one
     []
 
 -- the line of a number: 0000 where there is none

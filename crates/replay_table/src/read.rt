@@ -5,7 +5,7 @@ use crate::Shape;
 use crate::WORDS;
 use replay::Place;
 ghost use mathlib.Core.Path.{_≡_};
-ghost use Prim.Native.Nat.{_≤_};
+ghost use Prim.Native.Nat.{_≤_, _<_};
 ghost use lib.ListN.{length};
 
 // One word of so many digits, where there is to be one.
@@ -129,7 +129,13 @@ fn read_middle(
     let place = exponent.place;
     let outside = replay::read_words(file, buffer, place, 16, floats);
     let place = outside.place;
-    let number = read_field(file, buffer, place, 2, if shape.records == RUN { 0 } else { 1 });
+    let number = read_field(
+        file,
+        buffer,
+        place,
+        2,
+        if shape.records == RUN { 0 } else { 1 },
+    );
     let place = number.place;
     Middle {
         exponent: exponent.word,
@@ -150,9 +156,9 @@ pub fn read_case(
     floats: &mut [u64],
     answer: &mut [u64],
 ) -> Case
-    requires { ⌜ parts ≤ 8 ⌝ }
+    requires { ⌜ (0 < parts) × (parts ≤ 8) ⌝ }
     requires { ⌜ (length (now words) ≡ 96) × ((length (now floats) ≡ 2) × (length (now answer) ≡ 16)) ⌝ }
-    ensures { λ r. ⌜ (r .records ≤ 96) × ((r .floats ≤ 2) × (r .answer ≤ 16)) ⌝ }
+    ensures { λ r. ⌜ (r .records ≤ 96) × ((r .floats ≤ 2) × ((0 < r .answer) × (r .answer ≤ 16))) ⌝ }
 {
     let head = read_head(file, buffer, place);
     let place = head.place;

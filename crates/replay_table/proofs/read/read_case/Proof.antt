@@ -31,10 +31,10 @@ answer-words-requires : tie.Need-answer-words-requires
 answer-words-requires c κs = c .before .before .before .before .before .before .before .before .before .before .before .before .before .before .before .before .before .before .before .before .pre .0
 
 slice-relend-prefix-read-words : tie.Need-slice-relend-prefix-read-words
-slice-relend-prefix-read-words c = omega (arith, c .before .answer-words .ensures .1, c .before .before .before .before .before .before .before .before .before .before .before .before .before .before .before .before .before .before .before .before .before .before .pre .1 .1 .1)
+slice-relend-prefix-read-words c = omega (arith, c .before .answer-words .ensures .1 .1, c .before .before .before .before .before .before .before .before .before .before .before .before .before .before .before .before .before .before .before .before .before .before .pre .1 .1 .1)
 
 slice-aggregate-read-words : tie.Need-slice-aggregate-read-words
-slice-aggregate-read-words c = sym (length-take-le _ _ (omega (arith, c .before .before .answer-words .ensures .1, c .before .before .before .before .before .before .before .before .before .before .before .before .before .before .before .before .before .before .before .before .before .before .before .pre .1 .1 .1)))
+slice-aggregate-read-words c = sym (length-take-le _ _ (omega (arith, c .before .before .answer-words .ensures .1 .1, c .before .before .before .before .before .before .before .before .before .before .before .before .before .before .before .before .before .before .before .before .before .before .before .pre .1 .1 .1)))
 
 read-words-requires : tie.Need-read-words-requires
 read-words-requires c κs = search needs
