@@ -67,7 +67,17 @@ fn case_of(
             };
             let out = &mut out[..full];
             entries::lu(
-                width, file, buffer, place, n, wanted, words, numbers, matrix, order, out,
+                width,
+                file,
+                buffer,
+                place,
+                n,
+                wanted,
+                words,
+                numbers,
+                matrix,
+                order,
+                out,
             )
         }
         SOLVE => {
@@ -75,19 +85,49 @@ fn case_of(
             let b = &mut b[..wide];
             let x = &mut x[..wide];
             entries::solve(
-                width, file, buffer, place, n, words, numbers, matrix, order, column, b, x,
+                width,
+                file,
+                buffer,
+                place,
+                n,
+                words,
+                numbers,
+                matrix,
+                order,
+                column,
+                b,
+                x,
             )
         }
         DETERMINANT => {
             let record = &mut column[..width];
             entries::determinant(
-                width, file, buffer, place, n, first, words, numbers, matrix, order, record,
+                width,
+                file,
+                buffer,
+                place,
+                n,
+                first,
+                words,
+                numbers,
+                matrix,
+                order,
+                record,
             )
         }
         _ => {
             let out = &mut out[..full];
             entries::inverse(
-                width, file, buffer, place, n, words, numbers, matrix, order, out,
+                width,
+                file,
+                buffer,
+                place,
+                n,
+                words,
+                numbers,
+                matrix,
+                order,
+                out,
             )
         }
     }

@@ -1,88 +1,94 @@
-// What a record type answers to a case, by its function's number (oracle/README.md).
+// What a record type answers to a case, by its function's number (oracle/README.md), and whether it is what the file has.
 use crate::kinds;
 use crate::kinds::Kind;
-use replay::compare;
-use replay::compare::Answer;
-use replay::records;
+use calls::words;
+ghost use mathlib.Core.Path.{_≡_};
+ghost use mathlib.Core.Bool.{_&&_};
+ghost use Prim.Native.Nat.{_<_};
+ghost use lib.ListN.{length};
+ghost use Rattle.replay_table.specs.Table.{sameAnswer};
+ghost use Rattle.replay_records.specs.Kinds.{joinedOf, answerOf, sameMethodOf};
 
-// A whole number as an answer.
-fn whole_number(n: u64) -> Answer {
-    let mut words = [0u64; 16];
-    words[0] = n;
-    Answer { number: 0, words }
+const NDERIV: u32 = 0x03;
+
+const SUM: u32 = 0x39;
+
+const PRODUCT: u32 = 0x3a;
+
+// Comparisons and tests come from here on.
+const TESTS: u32 = 0x3b;
+
+// The sum or the product of a run, in lent floats.
+fn joined(
+    kind: Kind,
+    function: u32,
+    records: &[u64],
+    run: &mut [f64],
+    left: &mut [f64],
+    out: &mut [u64],
+) -> u32
+    requires { ⌜ length (now out) ≡ length (now left) ⌝ }
+    ensures { λ r. ⌜ (r, now (out .exit)) ≡ joinedOf kind function (now (records .entry)) (length (now (run .entry))) (now (left .entry)) ⌝ }
+{
+    replay_matrices::floats_of(records, run);
+    if function == SUM {
+        let number = kinds::sum(kind, run, left);
+        words::put(left, out);
+        return number;
+    }
+    let number = kinds::product(kind, run, left);
+    words::put(left, out);
+    number
 }
 
-// What a call answers: its words, zeros after them.
-fn called(kind: Kind, function: u32, line: &[u64; 32], words: &[u64; 96]) -> Answer {
-    let size = records::answer_words(function as u64, kinds::parts(kind));
-    let length = records::length(line);
-    let words = &words[..];
-    let floats = records::floats(line);
-    let exponent = records::exponent(line);
-    let mut out = [0u64; 16];
-    let number = kinds::call(
-        kind,
-        function,
-        exponent,
-        &words[..length],
-        floats,
-        &mut out[..size],
-    );
-    Answer {
-        number: number as u64,
-        words: out,
+// What a function answers: its number, and its words in out.
+pub(crate) fn answer(
+    kind: Kind,
+    function: u32,
+    exponent: i32,
+    records: &[u64],
+    floats: &[u64],
+    run: &mut [f64],
+    left: &mut [f64],
+    out: &mut [u64],
+) -> u32
+    requires { ⌜ length (now out) ≡ length (now left) ⌝ }
+    requires { ⌜ 0 < length (now out) ⌝ }
+    ensures { λ r. ⌜ (r, now (out .exit)) ≡ answerOf kind function exponent (now (records .entry)) (now (floats .entry)) (length (now (run .entry))) (now (left .entry)) (now (out .entry)) ⌝ }
+{
+    if function == NDERIV {
+        out[0] = kinds::nderiv(kind);
+        return 0;
     }
+    if function == SUM {
+        return joined(kind, function, records, run, left, out);
+    }
+    if function == PRODUCT {
+        return joined(kind, function, records, run, left, out);
+    }
+    let number = kinds::call(kind, function, exponent, records, floats, out);
+    if function < TESTS {
+        return number;
+    }
+    out[0] = replay_table::truth(out[0]);
+    number
 }
 
-// A truth is recorded as 1 or 0; a call gives it as the word of 1.0 or 0.0.
-fn truth(called: Answer) -> Answer {
-    let words = called.words;
-    if called.number != 0 {
-        return called;
+// Whether both the call and the record's own method give the file's answer.
+pub(crate) fn same_case(
+    kind: Kind,
+    function: u64,
+    records: &[u64],
+    floats: &[u64],
+    wanted: u64,
+    words: &[u64],
+    number: u64,
+    out: &[u64],
+) -> bool
+    ensures { λ r. ⌜ r ≡ (sameAnswer wanted (now (words .entry)) number (now (out .entry)) && sameMethodOf kind function (now (records .entry)) (now (floats .entry)) (now (words .entry))) ⌝ }
+{
+    if replay_table::same_answer(wanted, words, number, out) {
+        return kinds::same_method(kind, function, records, floats, words);
     }
-    match words[0] {
-        0x0000_0000_0000_0000 => whole_number(0),
-        0x3ff0_0000_0000_0000 => whole_number(1),
-        _ => compare::no_answer(),
-    }
-}
-
-fn floats_of(words: &[u64; 96]) -> [f64; 96] {
-    let mut floats = [0.0f64; 96];
-    for i in 0..96 {
-        floats[i] = real::float_of_word(words[i]);
-    }
-    floats
-}
-
-fn words_of(floats: [f64; 16]) -> [u64; 16] {
-    let mut words = [0u64; 16];
-    for i in 0..16 {
-        words[i] = real::word_of_float(floats[i]);
-    }
-    words
-}
-
-// What the sum or the product of a run answers.
-fn joined(kind: Kind, function: u64, line: &[u64; 32], words: &[u64; 96]) -> Answer {
-    let size = records::answer_words(function, kinds::parts(kind));
-    let length = records::length(line);
-    let floats = floats_of(words);
-    let mut out = [0.0f64; 16];
-    let number = kinds::join(kind, function, &floats[..length], &mut out[..size]);
-    Answer {
-        number: number as u64,
-        words: words_of(out),
-    }
-}
-
-pub(crate) fn answer(kind: Kind, line: &[u64; 32], words: &[u64; 96]) -> Answer {
-    let function = line[records::FUNCTION];
-    match function {
-        0x03 => whole_number(kinds::nderiv(kind) as u64),
-        0x01..=0x38 => called(kind, function as u32, line, words),
-        0x39..=0x3a => joined(kind, function, line, words),
-        0x3b..=0x43 => truth(called(kind, function as u32, line, words)),
-        _ => compare::no_answer(),
-    }
+    false
 }

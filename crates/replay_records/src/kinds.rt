@@ -1,9 +1,13 @@
-// The five record types, and the calls of each as crates/exports/src/record.rt chooses them.
+// The five record types, and what each is called by, as crates/exports/src/record.rt chooses it.
 use dual::Dual;
 use dual2::Dual2;
 use dual3::Dual3;
 use hyperdual::HyperDual;
 use hyperhyperdual::HyperHyperDual;
+ghost use mathlib.Core.Path.{_≡_};
+ghost use Prim.Native.Nat.{_≤_, _<_};
+ghost use Rattle.calls.specs.Called.{calledOf, summedOf, multipliedOf};
+ghost use Rattle.replay_records.specs.Kinds.{byKind, nderivOf, sameMethodOf};
 
 pub(crate) enum Kind {
     Dual,
@@ -14,7 +18,9 @@ pub(crate) enum Kind {
 }
 
 // How many parts a record has.
-pub(crate) fn parts(kind: Kind) -> usize {
+pub(crate) fn parts(kind: Kind) -> usize
+    ensures { λ r. ⌜ (r ≡ byKind (λ R K. K .layout .width) kind) × ((0 < r) × (r ≤ 8)) ⌝ }
+{
     match kind {
         Kind::Dual => 2,
         Kind::Dual2 => 3,
@@ -25,13 +31,15 @@ pub(crate) fn parts(kind: Kind) -> usize {
 }
 
 // The one recorded function that is a constant and no call.
-pub(crate) fn nderiv(kind: Kind) -> usize {
+pub(crate) fn nderiv(kind: Kind) -> u64
+    ensures { λ r. ⌜ r ≡ nderivOf kind ⌝ }
+{
     match kind {
-        Kind::Dual => Dual::NDERIV,
-        Kind::Dual2 => Dual2::NDERIV,
-        Kind::Dual3 => Dual3::NDERIV,
-        Kind::HyperDual => HyperDual::NDERIV,
-        Kind::HyperHyperDual => HyperHyperDual::NDERIV,
+        Kind::Dual => Dual::NDERIV as u64,
+        Kind::Dual2 => Dual2::NDERIV as u64,
+        Kind::Dual3 => Dual3::NDERIV as u64,
+        Kind::HyperDual => HyperDual::NDERIV as u64,
+        Kind::HyperHyperDual => HyperHyperDual::NDERIV as u64,
     }
 }
 
@@ -42,7 +50,9 @@ pub(crate) fn call(
     records: &[u64],
     floats: &[u64],
     out: &mut [u64],
-) -> u32 {
+) -> u32
+    ensures { λ r. ⌜ (r, now (out .exit)) ≡ byKind (λ R K. calledOf K function exponent (now (records .entry)) (now (floats .entry)) (now (out .entry))) kind ⌝ }
+{
     match kind {
         Kind::Dual => dual_calls::call(function, exponent, records, floats, out),
         Kind::Dual2 => dual2_calls::call(function, exponent, records, floats, out),
@@ -54,7 +64,9 @@ pub(crate) fn call(
     }
 }
 
-fn sum(kind: Kind, run: &[f64], out: &mut [f64]) -> u32 {
+pub(crate) fn sum(kind: Kind, run: &[f64], out: &mut [f64]) -> u32
+    ensures { λ r. ⌜ (r, now (out .exit)) ≡ byKind (λ R K. summedOf K (now (run .entry)) (now (out .entry))) kind ⌝ }
+{
     match kind {
         Kind::Dual => dual_calls::sum(run, out),
         Kind::Dual2 => dual2_calls::sum(run, out),
@@ -64,7 +76,9 @@ fn sum(kind: Kind, run: &[f64], out: &mut [f64]) -> u32 {
     }
 }
 
-fn product(kind: Kind, run: &[f64], out: &mut [f64]) -> u32 {
+pub(crate) fn product(kind: Kind, run: &[f64], out: &mut [f64]) -> u32
+    ensures { λ r. ⌜ (r, now (out .exit)) ≡ byKind (λ R K. multipliedOf K (now (run .entry)) (now (out .entry))) kind ⌝ }
+{
     match kind {
         Kind::Dual => dual_calls::product(run, out),
         Kind::Dual2 => dual2_calls::product(run, out),
@@ -74,11 +88,23 @@ fn product(kind: Kind, run: &[f64], out: &mut [f64]) -> u32 {
     }
 }
 
-// The sum (0x39) or the product of a run.
-pub(crate) fn join(kind: Kind, function: u64, run: &[f64], out: &mut [f64]) -> u32 {
-    if function == 0x39 {
-        sum(kind, run, out)
-    } else {
-        product(kind, run, out)
+// Whether the record's own method, where the function has one beside its call, gives the file's answer.
+pub(crate) fn same_method(
+    kind: Kind,
+    function: u64,
+    records: &[u64],
+    floats: &[u64],
+    wanted: &[u64],
+) -> bool
+    ensures { λ r. ⌜ r ≡ sameMethodOf kind function (now (records .entry)) (now (floats .entry)) (now (wanted .entry)) ⌝ }
+{
+    match kind {
+        Kind::Dual => replay_methods::of_dual::same(function, records, floats, wanted),
+        Kind::Dual2 => replay_methods::of_dual2::same(function, records, floats, wanted),
+        Kind::Dual3 => replay_methods::of_dual3::same(function, records, floats, wanted),
+        Kind::HyperDual => replay_methods::of_hyperdual::same(function, records, floats, wanted),
+        Kind::HyperHyperDual => {
+            replay_methods::of_hyperhyperdual::same(function, records, floats, wanted)
+        }
     }
 }

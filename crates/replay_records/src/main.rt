@@ -1,42 +1,139 @@
-// Replays the recorded answers of the five record types, records-KIND.txt and runs-KIND.txt, through the calls that the exports make.
+// Replays the recorded answers of the five record types, records-KIND.txt and runs-KIND.txt, through the calls that the exports make and through the records' own methods.
 mod answers;
 mod kinds;
+mod print;
 
 use kinds::Kind;
 use replay::Place;
-use replay::compare;
-use replay::records;
+use replay::tally;
+use replay::tally::Compared;
+use replay::tally::Tally;
+ghost use mathlib.Core.Path.{_≡_};
+ghost use Prim.Native.Nat.{_<_};
+ghost use lib.ListN.{length};
+ghost use Rattle.replay_records.specs.Kinds.{sameRecorded};
 
-// One case.
+// A case, with its function.
+struct Told {
+    function: u64,
+    compared: Compared,
+}
+
+// Whether a case that was read is the same; one that differs is printed, where it is `told`.
+fn case_of(
+    kind: Kind,
+    function: u64,
+    exponent: i32,
+    records: &[u64],
+    floats: &[u64],
+    wanted: u64,
+    words: &[u64],
+    run: &mut [f64],
+    left: &mut [f64],
+    out: &mut [u64],
+    told: bool,
+) -> bool
+    requires { ⌜ length (now out) ≡ length (now left) ⌝ }
+    requires { ⌜ 0 < length (now out) ⌝ }
+    ensures { λ r. ⌜ r ≡ sameRecorded kind function exponent (now (records .entry)) (now (floats .entry)) wanted (now (words .entry)) (length (now (run .entry))) (now (left .entry)) (now (out .entry)) ⌝ }
+{
+    let number = answers::answer(
+        kind,
+        (function % 0x100) as u32,
+        exponent,
+        records,
+        floats,
+        run,
+        left,
+        out,
+    ) as u64;
+    if answers::same_case(kind, function, records, floats, wanted, words, number, out) {
+        return true;
+    }
+    if told {
+        print::case(function, number, out, wanted, words);
+    }
+    false
+}
+
+// One case. Of the function `last` so many were compared so far; the first that differs of each is printed.
 fn case(
     kind: Kind,
     file: i32,
     buffer: &mut [u8; 4096],
     place: Place,
     pool: &[u64; 256],
-    counts: &mut [u64; 256],
-) -> Place {
-    let parts = kinds::parts(kind);
-    let mut line = [0u64; 32];
+    last: u64,
+    count: Tally,
+) -> Told {
     let mut words = [0u64; 96];
-    let read = records::read_case(file, buffer, place, pool, &mut line, &mut words, parts);
-    let got = answers::answer(kind, &line, &words);
-    compare::count(counts, &line, read.whole, got, parts);
-    read.place
+    let mut outside = [0u64; 2];
+    let mut answer = [0u64; 16];
+    let parts = kinds::parts(kind);
+    let c = replay_table::read::read_case(
+        file,
+        buffer,
+        place,
+        pool,
+        parts,
+        &mut words,
+        &mut outside,
+        &mut answer,
+    );
+    let place = c.place;
+    let n = c.records;
+    let m = c.floats;
+    let size = c.answer;
+    let function = c.function;
+    let told = function != last || count.different == 0;
+    let mut run = [0.0f64; 96];
+    let mut left = [0.0f64; 16];
+    let mut out = [0u64; 16];
+    let same = case_of(
+        kind,
+        function,
+        replay_table::exponent(c.exponent),
+        &words[..n],
+        &outside[..m],
+        c.number,
+        &answer[..size],
+        &mut run[..n],
+        &mut left[..size],
+        &mut out[..size],
+        told,
+    );
+    let compared = Compared {
+        place,
+        whole: c.whole,
+        same,
+    };
+    Told { function, compared }
 }
 
-// All the cases of a file.
-fn cases(kind: Kind, file: i32, counts: &mut [u64; 256]) {
+// Every case: a line for each function, as they come.
+fn cases(kind: Kind, file: i32) -> Tally {
     let mut buffer = [0u8; 4096];
     let mut pool = [0u64; 256];
-    let head = records::read_head(file, &mut buffer, &mut pool);
-    let mut here = head.place;
-    let mut turns = head.cases;
-    while turns > 0 {
-        here = case(kind, file, &mut buffer, here, &pool, counts);
-        turns -= 1;
+    let begun = tally::begin(file, &mut buffer);
+    let place = begun.place;
+    let read = replay::read_words(file, &mut buffer, place, 16, &mut pool);
+    let mut run = tally::begun(begun, read);
+    let mut function = 0u64;
+    let mut count = tally::none();
+    while run.left > 0 {
+        let place = run.place;
+        let told = case(kind, file, &mut buffer, place, &pool, function, count);
+        let compared = told.compared;
+        if told.function != function {
+            print::function(function, count);
+            count = tally::none();
+        }
+        function = told.function;
+        count = tally::counted(count, compared.whole && compared.same);
+        run = tally::after(run, compared);
     }
-    compare::count_rest(file, &mut buffer, here, counts);
+    print::function(function, count);
+    tally::ended(file, &mut buffer, run)
 }
 
 // Replays a file, and reports it by a name.
@@ -46,10 +143,9 @@ fn replay_file(kind: Kind, path: &[u8], name: &[u8]) {
         os::fail(path);
         return;
     }
-    let mut counts = [0u64; 256];
-    cases(kind, file, &mut counts);
+    let t = cases(kind, file);
     libc::close(file);
-    compare::report(name, &counts);
+    tally::report(name, t);
 }
 
 fn main() {

@@ -1,59 +1,73 @@
--- `replay_records::answers::joined` lends prefixes that its arrays have. Assumes nothing.
-use mathlib.Core.Path.{sym}
-use lib.Seq.{length-take-le}
+-- The words of what the sum or the product leaves. Assumes nothing.
+use Prim.Native.Nat.{ℕ}
+use mathlib.Core.Path.{_≡_}
+use mathlib.Core.List.{List}
+use lib.Ieee.{Float}
+use borrow.Author.Tests.{eq-eqb, ne-eqb}
+use Rattle.calls.specs.Words.{wordsOf}
+use Rattle.replay_records.specs.Kinds.{joinedOf}
 use borrow.Author.Needs.{needs}
 use Rattle.replay_records.proofs.answers.joined.Statement.{statement}
 use Rattle.replay_records.proofs.answers.joined.Tie as tie
 
-parts-requires : tie.Need-parts-requires
-parts-requires c κs = search needs
-
-answer-words-requires : tie.Need-answer-words-requires
-answer-words-requires c κs = search needs
-
-length-requires : tie.Need-length-requires
-length-requires c κs = search needs
+in-words : (number : ℕ) (out : List ℕ) (left : List Float) (given : ℕ × List Float) → (number, left) ≡ given → out ≡ wordsOf left → _≡_ {A = ℕ × List ℕ} (number, out) (given .0, wordsOf (given .1))
+in-words number out left given e h = rw (← e, h)
 
 floats-of-requires : tie.Need-floats-of-requires
 floats-of-requires c κs = search needs
 
-array-share-prefix-floats : tie.Need-array-share-prefix-floats
-array-share-prefix-floats c = search needs
+sum-requires : tie.Need-sum-requires
+sum-requires c κs = search needs
 
-slice-aggregate-join : tie.Need-slice-aggregate-join
-slice-aggregate-join c = sym (length-take-le _ _ (search needs))
+put-requires : tie.Need-put-requires
+put-requires c κs = search needs
 
-array-borrow-prefix-out : tie.Need-array-borrow-prefix-out
-array-borrow-prefix-out c = search needs
+same-length : tie.Need-same-length
+same-length c = search needs
 
-slice-aggregate-join-2 : tie.Need-slice-aggregate-join-2
-slice-aggregate-join-2 c = sym (length-take-le _ _ (search needs))
+same-length-2 : tie.Need-same-length-2
+same-length-2 c = search needs
 
-join-requires : tie.Need-join-requires
-join-requires c κs = search needs
-
-cast-t16 : tie.Need-cast-t16
-cast-t16 c = search needs
-
-words-of-requires : tie.Need-words-of-requires
-words-of-requires c κs = search needs
+same-length-3 : tie.Need-same-length-3
+same-length-3 c = search needs
 
 returns : tie.Need-returns
-returns c = search needs
+unfolding joinedOf
+returns c = rw (eq-eqb _ _ (c .before .before .before .before .before .before .before .before .before .before .if1 .taken)) (in-words _ _ _ _ (rw (c .before .before .before .before .before .before .before .before .before .before .before .before .before .floats-of .ensures) at (c .before .before .before .before .before .before .before .sum .ensures)) (c .before .before .put .ensures))
+
+product-requires : tie.Need-product-requires
+product-requires c κs = search needs
+
+put-requires-2 : tie.Need-put-requires-2
+put-requires-2 c κs = search needs
+
+same-length-4 : tie.Need-same-length-4
+same-length-4 c = search needs
+
+same-length-5 : tie.Need-same-length-5
+same-length-5 c = search needs
+
+same-length-6 : tie.Need-same-length-6
+same-length-6 c = search needs
+
+returns-2 : tie.Need-returns-2
+unfolding joinedOf
+returns-2 c = rw (ne-eqb _ _ (c .before .before .before .before .before .before .before .before .before .before .if1 .left)) (in-words _ _ _ _ (rw (c .before .before .before .before .before .before .before .before .before .before .before .before .before .floats-of .ensures) at (c .before .before .before .before .before .before .before .product .ensures)) (c .before .before .put2 .ensures))
 
 pub joined-spec : {M : Type 1} → statement M
 joined-spec =
     tie.close
     (tie.spec
-    parts-requires
-    answer-words-requires
-    length-requires
     floats-of-requires
-    array-share-prefix-floats
-    slice-aggregate-join
-    array-borrow-prefix-out
-    slice-aggregate-join-2
-    join-requires
-    cast-t16
-    words-of-requires
-    returns)
+    sum-requires
+    put-requires
+    same-length
+    same-length-2
+    same-length-3
+    returns
+    product-requires
+    put-requires-2
+    same-length-4
+    same-length-5
+    same-length-6
+    returns-2)

@@ -1,0 +1,2 @@
+-- When a method of a record gives the recorded answer. Definitions only.
+pub mod Methods

@@ -1,0 +1,47 @@
+// `Dual`: the record of the words, and what its methods answer.
+use calls::words;
+use dual::Dual;
+ghost use mathlib.Core.Path.{_≡_};
+ghost use Rattle.algebra.specs.Flat.{recordAt};
+ghost use Rattle.calls.specs.Words.{floatsOf};
+ghost use Rattle.dual.specs.Rules.{dualAlgebra, dualLayout};
+ghost use Rattle.replay_matrices.specs.Cases.{sameFloats};
+ghost use Rattle.replay_methods.specs.Methods.{floatAt, sameMethod};
+
+fn same_record(wanted: &[u64], x: Dual) -> bool
+    ensures { λ r. ⌜ r ≡ sameFloats (now (wanted .entry)) (dualLayout .parts x) ⌝ }
+{
+    replay_matrices::same_floats(wanted, &[x.re, x.eps])
+}
+
+fn same_method(function: u64, x: Dual, y: Dual, a: f64, wanted: &[u64]) -> bool
+    ensures { λ r. ⌜ r ≡ sameMethod dualAlgebra dualLayout function x y a (now (wanted .entry)) ⌝ }
+{
+    match function {
+        0x01 => same_record(wanted, Dual::zero()),
+        0x02 => same_record(wanted, Dual::one()),
+        0x12 => same_record(wanted, x.scale(a)),
+        0x18 => same_record(wanted, x.recip()),
+        0x19 => same_record(wanted, x.inv()),
+        0x1a => same_record(wanted, x.sqrt()),
+        0x3b => crate::same_truth(wanted, x.eq(y)),
+        0x3c => crate::same_truth(wanted, x.lt(y)),
+        0x3d => crate::same_truth(wanted, x.le(y)),
+        0x3e => crate::same_truth(wanted, x.gt(y)),
+        0x3f => crate::same_truth(wanted, x.ge(y)),
+        0x40 => crate::same_truth(wanted, x.is_negative()),
+        0x41 => crate::same_truth(wanted, x.is_positive()),
+        0x42 => crate::same_truth(wanted, x.is_zero()),
+        0x43 => crate::same_truth(wanted, x.is_one()),
+        _ => true,
+    }
+}
+
+// Whether the method of that function, of the records that the words hold, gives the file's answer.
+pub fn same(function: u64, records: &[u64], floats: &[u64], wanted: &[u64]) -> bool
+    ensures { λ r. ⌜ r ≡ sameMethod dualAlgebra dualLayout function (recordAt dualLayout (floatsOf (now (records .entry))) 0) (recordAt dualLayout (floatsOf (now (records .entry))) 1) (floatAt (now (floats .entry)) 0) (now (wanted .entry)) ⌝ }
+{
+    let x = Dual::new(words::part(records, 0), words::part(records, 1));
+    let y = Dual::new(words::part(records, 2), words::part(records, 3));
+    same_method(function, x, y, words::part(floats, 0), wanted)
+}

@@ -1,0 +1,77 @@
+// `HyperHyperDual`: the record of the words, and what its methods answer.
+use calls::words;
+use hyperhyperdual::HyperHyperDual;
+ghost use mathlib.Core.Path.{_≡_};
+ghost use Rattle.algebra.specs.Flat.{recordAt};
+ghost use Rattle.calls.specs.Words.{floatsOf};
+ghost use Rattle.hyperhyperdual.specs.Rules.{hyperHyperDualAlgebra, hyperHyperDualLayout};
+ghost use Rattle.replay_matrices.specs.Cases.{sameFloats};
+ghost use Rattle.replay_methods.specs.Methods.{floatAt, sameMethod};
+
+fn same_record(wanted: &[u64], x: HyperHyperDual) -> bool
+    ensures { λ r. ⌜ r ≡ sameFloats (now (wanted .entry)) (hyperHyperDualLayout .parts x) ⌝ }
+{
+    replay_matrices::same_floats(
+        wanted,
+        &[
+            x.re,
+            x.eps1,
+            x.eps2,
+            x.eps3,
+            x.eps1eps2,
+            x.eps1eps3,
+            x.eps2eps3,
+            x.eps1eps2eps3,
+        ],
+    )
+}
+
+fn same_method(function: u64, x: HyperHyperDual, y: HyperHyperDual, a: f64, wanted: &[u64]) -> bool
+    ensures { λ r. ⌜ r ≡ sameMethod hyperHyperDualAlgebra hyperHyperDualLayout function x y a (now (wanted .entry)) ⌝ }
+{
+    match function {
+        0x01 => same_record(wanted, HyperHyperDual::zero()),
+        0x02 => same_record(wanted, HyperHyperDual::one()),
+        0x12 => same_record(wanted, x.scale(a)),
+        0x18 => same_record(wanted, x.recip()),
+        0x19 => same_record(wanted, x.inv()),
+        0x1a => same_record(wanted, x.sqrt()),
+        0x3b => crate::same_truth(wanted, x.eq(y)),
+        0x3c => crate::same_truth(wanted, x.lt(y)),
+        0x3d => crate::same_truth(wanted, x.le(y)),
+        0x3e => crate::same_truth(wanted, x.gt(y)),
+        0x3f => crate::same_truth(wanted, x.ge(y)),
+        0x40 => crate::same_truth(wanted, x.is_negative()),
+        0x41 => crate::same_truth(wanted, x.is_positive()),
+        0x42 => crate::same_truth(wanted, x.is_zero()),
+        0x43 => crate::same_truth(wanted, x.is_one()),
+        _ => true,
+    }
+}
+
+// Whether the method of that function, of the records that the words hold, gives the file's answer.
+pub fn same(function: u64, records: &[u64], floats: &[u64], wanted: &[u64]) -> bool
+    ensures { λ r. ⌜ r ≡ sameMethod hyperHyperDualAlgebra hyperHyperDualLayout function (recordAt hyperHyperDualLayout (floatsOf (now (records .entry))) 0) (recordAt hyperHyperDualLayout (floatsOf (now (records .entry))) 1) (floatAt (now (floats .entry)) 0) (now (wanted .entry)) ⌝ }
+{
+    let x = HyperHyperDual::new(
+        words::part(records, 0),
+        words::part(records, 1),
+        words::part(records, 2),
+        words::part(records, 3),
+        words::part(records, 4),
+        words::part(records, 5),
+        words::part(records, 6),
+        words::part(records, 7),
+    );
+    let y = HyperHyperDual::new(
+        words::part(records, 8),
+        words::part(records, 9),
+        words::part(records, 10),
+        words::part(records, 11),
+        words::part(records, 12),
+        words::part(records, 13),
+        words::part(records, 14),
+        words::part(records, 15),
+    );
+    same_method(function, x, y, words::part(floats, 0), wanted)
+}

@@ -1,0 +1,2 @@
+-- What a record type answers to a case. Definitions only.
+pub mod Kinds

@@ -1,0 +1,98 @@
+-- Each turn stores the word of one place. Assumes nothing.
+use Prim.Native.Nat.{ℕ, _+_, _-_, _*_, _/_, _%_, _^_, _≤_, _<_}
+use mathlib.Core.Path.{_≡_, refl, sym, ap, _∙_}
+use mathlib.Core.List.{List}
+use denote.Ref.{now}
+use lib.ListN.{length, getD, set, length-set}
+use native.Mathlib.Omega.{arith}
+use Rattle.algebra.specs.Flat.{tabulate}
+use Rattle.algebra.proofs.Flat.{tabulate-length, tabulate-at}
+use Rattle.matrices.proofs.Fill.{Filled, filled-more, filled-all}
+use Rattle.replay_table.specs.Table.{recordOf}
+use borrow.Author.Needs.{needs}
+use Rattle.replay_table.proofs.record_of.Statement.{statement}
+use Rattle.replay_table.proofs.record_of.Tie as tie
+
+-- word number i of the record
+abbrev placed : List ℕ → ℕ → ℕ → ℕ → ℕ
+placed pool places parts i = getD pool (places / 2 ^ ((parts - 1 - i) * 8) % 256) 0
+
+turn : (pool : List ℕ) (places : ℕ) (old out : List ℕ) (i : ℕ) → length out ≡ length old → Filled 0 (placed pool places (length old)) out i → i < length out
+    → (length (set out i (placed pool places (length out) i)) ≡ length old) × Filled 0 (placed pool places (length old)) (set out i (placed pool places (length out) i)) (i + 1)
+turn pool places old out i e f h = (simp length-set e, rw e (filled-more 0 (placed pool places (length old)) out i h f))
+
+whole : (pool : List ℕ) (places : ℕ) (old out : List ℕ) (i : ℕ) → length out ≡ length old → Filled 0 (placed pool places (length old)) out i → length out ≤ i → out ≡ recordOf pool places (length old)
+unfolding recordOf
+whole pool places old out i e f h =
+    let g : ℕ → ℕ = placed pool places (length old) in
+    filled-all 0 g out (tabulate g (length old) 0) i h (e ∙ sym (tabulate-length g (length old) 0)) f
+    (λ k lt. tabulate-at g (length old) 0 k 0 (omega arith) ∙ ap g (omega arith))
+
+abbrev Inv-loop : tie.InvT-loop
+Inv-loop pool places out₀ i₀ out i = (length out ≡ length out₀) × Filled 0 (placed pool places (length out₀)) out i
+
+abbrev μ-loop : tie.MeasureT-loop
+μ-loop pool places out₀ i₀ out i = length out₀ - i
+
+loop-holds : tie.Need-loop-holds Inv-loop μ-loop
+loop-holds c = (refl, λ k h. absurd (omega arith))
+
+sub-shift : tie.Need-sub-shift Inv-loop μ-loop
+sub-shift c = search needs
+
+sub-shift-2 : tie.Need-sub-shift-2 Inv-loop μ-loop
+sub-shift-2 c = search needs
+
+mul-shift : tie.Need-mul-shift Inv-loop μ-loop
+mul-shift c = search needs
+
+shr-place : tie.Need-shr-place Inv-loop μ-loop
+shr-place c = search needs
+
+mul-out : tie.Need-mul-out Inv-loop μ-loop
+mul-out c = search needs
+
+element-copy-out-out : tie.Need-element-copy-out-out Inv-loop μ-loop
+element-copy-out-out c = search needs
+
+mul-out-2 : tie.Need-mul-out-2 Inv-loop μ-loop
+mul-out-2 c = search needs
+
+slice-write-out : tie.Need-slice-write-out Inv-loop μ-loop
+slice-write-out c = search needs
+
+add-i : tie.Need-add-i Inv-loop μ-loop
+add-i c = search needs
+
+loop-less : tie.Need-loop-less Inv-loop μ-loop
+loop-less c = search needs
+
+loop-again : tie.Need-loop-again Inv-loop μ-loop
+loop-again c = turn (now (c .before .before .before .args .pool)) (c .before .before .before .args .places) (now (c .before .before .before .args .out)) (c .before .before .loop .out) (c .before .before .loop .i) (c .before .before .loop .inv .0) (c .before .before .loop .inv .1) (search needs)
+
+same-length : tie.Need-same-length Inv-loop μ-loop
+same-length c = search needs
+
+returns : tie.Need-returns Inv-loop μ-loop
+returns c = whole _ _ (now (c .before .before .args .out)) _ _ (c .before .loop .inv .0) (c .before .loop .inv .1) (c .loop-test .left)
+
+pub record-of-spec : {M : Type 1} → statement M
+record-of-spec =
+    tie.close
+    (tie.spec
+    Inv-loop
+    μ-loop
+    loop-holds
+    sub-shift
+    sub-shift-2
+    mul-shift
+    shr-place
+    mul-out
+    element-copy-out-out
+    mul-out-2
+    slice-write-out
+    add-i
+    loop-less
+    loop-again
+    same-length
+    returns)

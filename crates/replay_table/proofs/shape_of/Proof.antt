@@ -1,0 +1,24 @@
+-- The line of the table, or none past its end. Assumes nothing.
+use mathlib.Core.Path.{refl}
+use lib.ListN.{List·getD-eq-default}
+use Rattle.replay_table.specs.Table.{table, shapeOf}
+use borrow.Author.Needs.{needs}
+use Rattle.replay_table.proofs.shape_of.Statement.{statement}
+use Rattle.replay_table.proofs.shape_of.Tie as tie
+
+returns : tie.Need-returns
+unfolding shapeOf
+returns c = rw (List·getD-eq-default table 0 (c .if1 .taken))
+
+mul-row : tie.Need-mul-row
+mul-row c = search needs
+
+array-read-row : tie.Need-array-read-row
+array-read-row c = search needs
+
+returns-2 : tie.Need-returns-2
+unfolding shapeOf
+returns-2 c = refl
+
+pub shape-of-spec : {M : Type 1} → statement M
+shape-of-spec = tie.close (tie.spec returns mul-row array-read-row returns-2)
