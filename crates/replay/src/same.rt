@@ -18,15 +18,15 @@ pub fn same_words(left: &[u64], right: &[u64]) -> bool
     true
 }
 
-pub fn same_text(left: &[u8], right: &[u8]) -> bool
-    ensures { λ r. ⌜ r ≡ sameNumbers (now (left .entry)) (now (right .entry)) ⌝ }
+pub fn same_text(text: &[u8], other: &[u8]) -> bool
+    ensures { λ r. ⌜ r ≡ sameNumbers (now (text .entry)) (now (other .entry)) ⌝ }
 {
-    if left.len() != right.len() {
+    if text.len() != other.len() {
         return false;
     }
     let mut i = 0usize;
-    while i < left.len() {
-        if left[i] != right[i] {
+    while i < text.len() {
+        if text[i] != other[i] {
             return false;
         }
         i += 1;

@@ -13,10 +13,11 @@ use Rattle.replay.proofs.same.same_text.Statement.{statement}
 use Rattle.replay.proofs.same.same_text.Tie as tie
 
 abbrev Inv-loop : tie.InvT-loop
-Inv-loop left right i₀ i = (i ≤ length left) × (length left ≡ length right) × ((k : ℕ) → k < i → eqb (getD left k 0) (getD right k 0) ≡ true)
+Inv-loop text other i₀ i =
+    (i ≤ length text) × (length text ≡ length other) × ((k : ℕ) → k < i → eqb (getD text k 0) (getD other k 0) ≡ true)
 
 abbrev μ-loop : tie.MeasureT-loop
-μ-loop left right i₀ i = length left - i
+μ-loop text other i₀ i = length text - i
 
 returns : tie.Need-returns Inv-loop μ-loop
 returns c = sym (alike-lengths eqb 0 0 _ _ (c .if1 .taken))
