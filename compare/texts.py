@@ -242,19 +242,18 @@ def file_of(cases):
 
 
 def main():
-    path, data = os.path.join(DATA, "damaged.txt"), file_of(recorded())
-    if sys.argv[1:] == ["--check"]:
+    if sys.argv[1:] not in ([], ["--check"]):
+        print(__doc__, file=sys.stdout if sys.argv[1:] == ["--help"] else sys.stderr)
+        sys.exit(0 if sys.argv[1:] == ["--help"] else 2)
+    path, cases = os.path.join(DATA, "damaged.txt"), recorded()
+    data = file_of(cases)
+    if sys.argv[1:]:
         if open(path, "rb").read() != data:
             sys.exit("damaged.txt is not what compare/texts.py writes")
         print("the damaged texts are those in the repository")
-    elif sys.argv[1:] in (["-h"], ["--help"]):
-        print(__doc__)
-    elif sys.argv[1:]:
-        print(f"compare/texts.py: '{' '.join(sys.argv[1:])}' is no argument of it\n\n{__doc__}", file=sys.stderr)
-        sys.exit(2)
     else:
         open(path, "wb").write(data)
-        print(f"{len(recorded())} texts, {len(data)} bytes")
+        print(f"{len(cases)} texts, {len(data)} bytes")
 
 
 if __name__ == "__main__":
