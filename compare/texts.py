@@ -243,8 +243,8 @@ def file_of(cases):
 
 def main():
     if sys.argv[1:] not in ([], ["--check"]):
-        print(__doc__, file=sys.stdout if sys.argv[1:] == ["--help"] else sys.stderr)
-        sys.exit(0 if sys.argv[1:] == ["--help"] else 2)
+        print(__doc__, file=sys.stdout if sys.argv[1:] in (["-h"], ["--help"]) else sys.stderr)
+        sys.exit(0 if sys.argv[1:] in (["-h"], ["--help"]) else 2)
     path, cases = os.path.join(DATA, "damaged.txt"), recorded()
     data = file_of(cases)
     if sys.argv[1:]:
