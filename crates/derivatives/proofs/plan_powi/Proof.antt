@@ -47,4 +47,11 @@ returns-6 c =
     )
 
 pub plan-powi-spec : {M : Type 1} → statement M
-plan-powi-spec = tie.close (tie.spec returns returns-2 powi-requires returns-3 returns-4 returns-5 returns-6)
+plan-powi-spec = tie.close (tie.spec
+    returns
+    returns-2
+    powi-requires
+    returns-3
+    returns-4
+    returns-5
+    returns-6)

@@ -3,9 +3,6 @@ use borrow.Author.Needs.{needs}
 use Rattle.dual2_calls.proofs.derivative.Statement.{statement}
 use Rattle.dual2_calls.proofs.derivative.Tie as tie
 
-derivative-requires : tie.Need-derivative-requires
-derivative-requires c κs = search needs
-
 returns : tie.Need-returns
 returns c = rw (c .before .match .keys1) (cc)
 
@@ -13,4 +10,7 @@ returns-2 : tie.Need-returns-2
 returns-2 c = rw (ne-eqb _ _ (c .match .rest .1))
 
 pub derivative-spec : {M : Type 1} → statement M
-derivative-spec = tie.close (tie.spec derivative-requires returns returns-2)
+derivative-spec = tie.close (tie.spec
+    (λ c κs. search needs)
+    returns
+    returns-2)

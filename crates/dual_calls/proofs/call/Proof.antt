@@ -6,23 +6,8 @@ use borrow.Author.Needs.{needs}
 use Rattle.dual_calls.proofs.call.Statement.{statement}
 use Rattle.dual_calls.proofs.call.Tie as tie
 
-call-of-requires : tie.Need-call-of-requires
-call-of-requires c κs = search needs
-
-record-at-requires : tie.Need-record-at-requires
-record-at-requires c κs = search needs
-
-record-at-requires-2 : tie.Need-record-at-requires-2
-record-at-requires-2 c κs = search needs
-
-record-at-requires-3 : tie.Need-record-at-requires-3
-record-at-requires-3 c κs = search needs
-
 run-requires : tie.Need-run-requires
 run-requires c κs = rw (c .before .before .before .before .call-of .ensures) (call-sized _ _ _ _ _ _)
-
-same-length : tie.Need-same-length
-same-length c = search needs
 
 returns : tie.Need-returns
 unfolding calledOf
@@ -35,10 +20,7 @@ pub call-spec : {M : Type 1} → statement M
 call-spec =
     tie.close
     (tie.spec
-    call-of-requires
-    record-at-requires
-    record-at-requires-2
-    record-at-requires-3
+    (λ c κs. search needs) (λ c κs. search needs) (λ c κs. search needs) (λ c κs. search needs)
     run-requires
-    same-length
+    (λ c. search needs)
     returns)

@@ -2,21 +2,6 @@ use borrow.Author.Needs.{needs}
 use Rattle.dual_calls.proofs.leave.Statement.{statement}
 use Rattle.dual_calls.proofs.leave.Tie as tie
 
-enum-known-answer : tie.Need-enum-known-answer
-enum-known-answer c = search needs
-
-slice-aggregate-put : tie.Need-slice-aggregate-put
-slice-aggregate-put c = search needs
-
-put-requires : tie.Need-put-requires
-put-requires c κs = search needs
-
-enum-known-answer-2 : tie.Need-enum-known-answer-2
-enum-known-answer-2 c = search needs
-
-same-length : tie.Need-same-length
-same-length c = search needs
-
 returns : tie.Need-returns
 returns c = rw (c .before .before .before .before .before .before .answer .given .1, c .before .before .put .ensures)
 
@@ -27,10 +12,6 @@ pub leave-spec : {M : Type 1} → statement M
 leave-spec =
     tie.close
     (tie.spec
-    enum-known-answer
-    slice-aggregate-put
-    put-requires
-    enum-known-answer-2
-    same-length
+    (λ c. search needs) (λ c. search needs) (λ c κs. search needs) (λ c. search needs) (λ c. search needs)
     returns
     returns-2)

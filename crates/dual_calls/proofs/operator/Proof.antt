@@ -5,29 +5,11 @@ use borrow.Author.Needs.{needs}
 use Rattle.dual_calls.proofs.operator.Statement.{statement}
 use Rattle.dual_calls.proofs.operator.Tie as tie
 
-mul-if1 : tie.Need-mul-if1
-mul-if1 c = search needs
-
 returns : tie.Need-returns
 returns c = sym (operated-records dualKind _ _ _ (c .if1 .taken))
 
 returns-2 : tie.Need-returns-2
 returns-2 c = sym (operated-out dualKind _ _ _ (c .before .if1 .left) (c .if2 .taken))
-
-record-at-requires : tie.Need-record-at-requires
-record-at-requires c κs = search needs
-
-record-at-requires-2 : tie.Need-record-at-requires-2
-record-at-requires-2 c κs = search needs
-
-binary-requires : tie.Need-binary-requires
-binary-requires c κs = search needs
-
-leave-requires : tie.Need-leave-requires
-leave-requires c κs = search needs
-
-same-length : tie.Need-same-length
-same-length c = search needs
 
 returns-3 : tie.Need-returns-3
 returns-3 c =
@@ -38,12 +20,8 @@ pub operator-spec : {M : Type 1} → statement M
 operator-spec =
     tie.close
     (tie.spec
-    mul-if1
+    (λ c. search needs)
     returns
     returns-2
-    record-at-requires
-    record-at-requires-2
-    binary-requires
-    leave-requires
-    same-length
+    (λ c κs. search needs) (λ c κs. search needs) (λ c κs. search needs) (λ c κs. search needs) (λ c. search needs)
     returns-3)

@@ -18,4 +18,8 @@ unfolding cell
 returns c = c .read .ensures
 
 pub get-spec : {M : Type 1} → statement M
-get-spec = tie.close (tie.spec mul-read add-read read-requires returns)
+get-spec = tie.close (tie.spec
+    mul-read
+    add-read
+    read-requires
+    returns)

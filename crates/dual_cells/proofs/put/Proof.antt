@@ -15,12 +15,14 @@ add-write c = let s = c .before .before .pre in let i = inside _ _ _ _ (s .0) (s
 write-requires : tie.Need-write-requires
 write-requires c κs = let s = c .before .before .pre in inside _ _ _ _ (s .0) (s .1 .0) (s .1 .1) .there
 
-same-length : tie.Need-same-length
-same-length c = search needs
-
 returns : tie.Need-returns
 unfolding store decode
 returns c = search needs
 
 pub put-spec : {M : Type 1} → statement M
-put-spec = tie.close (tie.spec mul-write add-write write-requires same-length returns)
+put-spec = tie.close (tie.spec
+    mul-write
+    add-write
+    write-requires
+    (λ c. search needs)
+    returns)

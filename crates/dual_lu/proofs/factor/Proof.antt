@@ -15,8 +15,8 @@ factor-spec =
     (tie.spec
     (λ c κs. search needs) (λ c κs. search needs)
     run-columns-requires
-    (λ c. search needs) (λ c κs. search needs) (λ c κs. search needs) (λ c. search needs)
-    (λ c. search needs) (λ c. search needs)
+    (λ c. search needs) (λ c κs. search needs) (λ c κs. search needs) (λ c. search needs) (λ c. search needs)
+    (λ c. search needs)
     (λ c. search (needs, factor-singular dual-laws))
     (λ c. search needs) (λ c. search needs)
     (λ c. search (needs, factor-done dual-laws)))

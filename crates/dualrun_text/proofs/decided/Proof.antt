@@ -7,21 +7,16 @@ use borrow.Author.Needs.{needs}
 use Rattle.dualrun_text.proofs.decided.Statement.{statement}
 use Rattle.dualrun_text.proofs.decided.Tie as tie
 
-has-line-requires : tie.Need-has-line-requires
-has-line-requires c κs = search needs
-
 returns : tie.Need-returns
 returns c = not-come _ (sym (c .before .has-line .ensures) ∙ not-true _ (c .if1 .taken))
-
-request-requires : tie.Need-request-requires
-request-requires c κs = search needs
-
-line-refusal-requires : tie.Need-line-refusal-requires
-line-refusal-requires c κs = search needs
 
 returns-2 : tie.Need-returns-2
 returns-2 c = come _ _ (sym (c .before .before .before .has-line .ensures) ∙ not-false _ (c .before .before .if1 .left)) (c .line-refusal .ensures ∙ ap lineRefusal (c .before .request .ensures))
 
 pub decided-spec : {M : Type 1} → statement M
 decided-spec =
-    tie.close (tie.spec has-line-requires returns request-requires line-refusal-requires returns-2)
+    tie.close (tie.spec
+    (λ c κs. search needs)
+    returns
+    (λ c κs. search needs) (λ c κs. search needs)
+    returns-2)

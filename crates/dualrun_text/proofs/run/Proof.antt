@@ -13,32 +13,11 @@ use borrow.Author.Needs.{needs}
 use Rattle.dualrun_text.proofs.run.Statement.{statement}
 use Rattle.dualrun_text.proofs.run.Tie as tie
 
-request-requires : tie.Need-request-requires
-request-requires c κs = search needs
-
-enum-known-n : tie.Need-enum-known-n
-enum-known-n c = search needs
-
 command-requires : tie.Need-command-requires
 command-requires c κs = let h = subst (λ (r : Request). startOf r ≤ 24) (sym (c .before .before .before .before .request .ensures) ∙ c .before .before .n .given .1) (start-small (now (c .before .before .before .before .before .before .before .args .text))) in omega arith
 
-enum-known-n-2 : tie.Need-enum-known-n-2
-enum-known-n-2 c = search needs
-
 command-requires-2 : tie.Need-command-requires-2
 command-requires-2 c κs = let h = subst (λ (r : Request). startOf r ≤ 24) (sym (c .before .before .before .before .request .ensures) ∙ c .before .before .n2 .given .1) (start-small (now (c .before .before .before .before .before .before .before .args .text))) in omega arith
-
-enum-told : tie.Need-enum-told
-enum-told c = search needs
-
-slice-aggregate-bytes : tie.Need-slice-aggregate-bytes
-slice-aggregate-bytes c = search needs
-
-bytes-requires : tie.Need-bytes-requires
-bytes-requires c κs = search needs
-
-same-length : tie.Need-same-length
-same-length c = search needs
 
 returns : tie.Need-returns
 returns c =
@@ -47,18 +26,12 @@ returns c =
     let e = c .before .before .command .ensures ∙ ap (written p) (output-for (now (s .text)) _ (sym (c .before .before .before .before .before .before .before .request .ensures) ∙ c .before .before .before .before .before .n .given .1)) in
     (e, counted (now (s .out)) _ _ _ e)
 
-same-length-2 : tie.Need-same-length-2
-same-length-2 c = search needs
-
 returns-2 : tie.Need-returns-2
 returns-2 c =
     let s = c .before .before .before .before .before .before .before .before .before .before .args in
     let p = page (now (s .out)) 0 in
     let e = c .before .before .command2 .ensures ∙ ap (written p) (output-for (now (s .text)) _ (sym (c .before .before .before .before .before .before .before .request .ensures) ∙ c .before .before .before .before .before .n2 .given .1)) in
     (e, counted (now (s .out)) _ _ _ e)
-
-same-length-3 : tie.Need-same-length-3
-same-length-3 c = search needs
 
 returns-3 : tie.Need-returns-3
 returns-3 c =
@@ -71,17 +44,13 @@ pub run-spec : {M : Type 1} → statement M
 run-spec =
     tie.close
     (tie.spec
-    request-requires
-    enum-known-n
+    (λ c κs. search needs) (λ c. search needs)
     command-requires
-    enum-known-n-2
+    (λ c. search needs)
     command-requires-2
-    enum-told
-    slice-aggregate-bytes
-    bytes-requires
-    same-length
+    (λ c. search needs) (λ c. search needs) (λ c κs. search needs) (λ c. search needs)
     returns
-    same-length-2
+    (λ c. search needs)
     returns-2
-    same-length-3
+    (λ c. search needs)
     returns-3)

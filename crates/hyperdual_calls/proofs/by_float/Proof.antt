@@ -2,30 +2,6 @@ use borrow.Author.Needs.{needs}
 use Rattle.hyperdual_calls.proofs.by_float.Statement.{statement}
 use Rattle.hyperdual_calls.proofs.by_float.Tie as tie
 
-enum-told : tie.Need-enum-told
-enum-told c = search needs
-
-mul-float-requires : tie.Need-mul-float-requires
-mul-float-requires c κs = search needs
-
-enum-told-2 : tie.Need-enum-told-2
-enum-told-2 c = search needs
-
-div-float-requires : tie.Need-div-float-requires
-div-float-requires c κs = search needs
-
-enum-told-3 : tie.Need-enum-told-3
-enum-told-3 c = search needs
-
-add-float-requires : tie.Need-add-float-requires
-add-float-requires c κs = search needs
-
-enum-told-4 : tie.Need-enum-told-4
-enum-told-4 c = search needs
-
-sub-float-requires : tie.Need-sub-float-requires
-sub-float-requires c κs = search needs
-
 returns : tie.Need-returns
 returns c = rw (c .before .enum-told .given .1) (c .mul-float .ensures)
 
@@ -42,14 +18,8 @@ pub by-float-spec : {M : Type 1} → statement M
 by-float-spec =
     tie.close
     (tie.spec
-    enum-told
-    mul-float-requires
-    enum-told-2
-    div-float-requires
-    enum-told-3
-    add-float-requires
-    enum-told-4
-    sub-float-requires
+    (λ c. search needs) (λ c κs. search needs) (λ c. search needs) (λ c κs. search needs) (λ c. search needs)
+    (λ c κs. search needs) (λ c. search needs) (λ c κs. search needs)
     returns
     returns-2
     returns-3

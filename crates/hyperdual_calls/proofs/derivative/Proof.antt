@@ -3,12 +3,6 @@ use borrow.Author.Needs.{needs}
 use Rattle.hyperdual_calls.proofs.derivative.Statement.{statement}
 use Rattle.hyperdual_calls.proofs.derivative.Tie as tie
 
-derivative1-requires : tie.Need-derivative1-requires
-derivative1-requires c κs = search needs
-
-derivative2-requires : tie.Need-derivative2-requires
-derivative2-requires c κs = search needs
-
 returns : tie.Need-returns
 returns c = rw (c .before .match .keys1) (cc)
 
@@ -19,4 +13,8 @@ returns-3 : tie.Need-returns-3
 returns-3 c = rw (ne-eqb _ _ (c .match .rest .0 .1), ne-eqb _ _ (c .match .rest .1))
 
 pub derivative-spec : {M : Type 1} → statement M
-derivative-spec = tie.close (tie.spec derivative1-requires derivative2-requires returns returns-2 returns-3)
+derivative-spec = tie.close (tie.spec
+    (λ c κs. search needs) (λ c κs. search needs)
+    returns
+    returns-2
+    returns-3)

@@ -4,33 +4,6 @@ use native.Mathlib.Nat.{add-zero}
 use Rattle.hyperdual_calls.proofs.record_at.Statement.{statement}
 use Rattle.hyperdual_calls.proofs.record_at.Tie as tie
 
-mul-at : tie.Need-mul-at
-mul-at c = search needs
-
-part-requires : tie.Need-part-requires
-part-requires c κs = search needs
-
-add-part : tie.Need-add-part
-add-part c = search needs
-
-part-requires-2 : tie.Need-part-requires-2
-part-requires-2 c κs = search needs
-
-add-part-2 : tie.Need-add-part-2
-add-part-2 c = search needs
-
-part-requires-3 : tie.Need-part-requires-3
-part-requires-3 c κs = search needs
-
-add-part-3 : tie.Need-add-part-3
-add-part-3 c = search needs
-
-part-requires-4 : tie.Need-part-requires-4
-part-requires-4 c κs = search needs
-
-new-requires : tie.Need-new-requires
-new-requires c κs = search needs
-
 returns : tie.Need-returns
 returns c =
     rw (
@@ -45,4 +18,7 @@ returns c =
 pub record-at-spec : {M : Type 1} → statement M
 record-at-spec =
     tie.close
-    (tie.spec mul-at part-requires add-part part-requires-2 add-part-2 part-requires-3 add-part-3 part-requires-4 new-requires returns)
+    (tie.spec
+    (λ c. search needs) (λ c κs. search needs) (λ c. search needs) (λ c κs. search needs) (λ c. search needs)
+    (λ c κs. search needs) (λ c. search needs) (λ c κs. search needs) (λ c κs. search needs)
+    returns)

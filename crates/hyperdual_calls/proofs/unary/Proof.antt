@@ -2,24 +2,6 @@ use borrow.Author.Needs.{needs}
 use Rattle.hyperdual_calls.proofs.unary.Statement.{statement}
 use Rattle.hyperdual_calls.proofs.unary.Tie as tie
 
-enum-told : tie.Need-enum-told
-enum-told c = search needs
-
-neg-requires : tie.Need-neg-requires
-neg-requires c κs = search needs
-
-enum-told-2 : tie.Need-enum-told-2
-enum-told-2 c = search needs
-
-abs-requires : tie.Need-abs-requires
-abs-requires c κs = search needs
-
-enum-told-3 : tie.Need-enum-told-3
-enum-told-3 c = search needs
-
-signum-requires : tie.Need-signum-requires
-signum-requires c κs = search needs
-
 returns : tie.Need-returns
 returns c = rw (c .before .enum-told .given .1) (c .neg .ensures)
 
@@ -33,12 +15,8 @@ pub unary-spec : {M : Type 1} → statement M
 unary-spec =
     tie.close
     (tie.spec
-    enum-told
-    neg-requires
-    enum-told-2
-    abs-requires
-    enum-told-3
-    signum-requires
+    (λ c. search needs) (λ c κs. search needs) (λ c. search needs) (λ c κs. search needs) (λ c. search needs)
+    (λ c κs. search needs)
     returns
     returns-2
     returns-3)

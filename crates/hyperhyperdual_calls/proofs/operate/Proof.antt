@@ -2,60 +2,6 @@ use borrow.Author.Needs.{needs}
 use Rattle.hyperhyperdual_calls.proofs.operate.Statement.{statement}
 use Rattle.hyperhyperdual_calls.proofs.operate.Tie as tie
 
-enum-known-op : tie.Need-enum-known-op
-enum-known-op c = search needs
-
-from-re-requires : tie.Need-from-re-requires
-from-re-requires c κs = search needs
-
-enum-known-op-2 : tie.Need-enum-known-op-2
-enum-known-op-2 c = search needs
-
-derivative-requires : tie.Need-derivative-requires
-derivative-requires c κs = search needs
-
-enum-known-op-3 : tie.Need-enum-known-op-3
-enum-known-op-3 c = search needs
-
-unary-requires : tie.Need-unary-requires
-unary-requires c κs = search needs
-
-enum-known-op-4 : tie.Need-enum-known-op-4
-enum-known-op-4 c = search needs
-
-binary-requires : tie.Need-binary-requires
-binary-requires c κs = search needs
-
-enum-known-op-5 : tie.Need-enum-known-op-5
-enum-known-op-5 c = search needs
-
-by-float-requires : tie.Need-by-float-requires
-by-float-requires c κs = search needs
-
-enum-known-op-6 : tie.Need-enum-known-op-6
-enum-known-op-6 c = search needs
-
-atan2-requires : tie.Need-atan2-requires
-atan2-requires c κs = search needs
-
-enum-told : tie.Need-enum-told
-enum-told c = search needs
-
-mul-add-requires : tie.Need-mul-add-requires
-mul-add-requires c κs = search needs
-
-enum-known-op-7 : tie.Need-enum-known-op-7
-enum-known-op-7 c = search needs
-
-powd-requires : tie.Need-powd-requires
-powd-requires c κs = search needs
-
-enum-known-op-8 : tie.Need-enum-known-op-8
-enum-known-op-8 c = search needs
-
-apply-requires : tie.Need-apply-requires
-apply-requires c κs = search needs
-
 returns : tie.Need-returns
 returns c = rw (c .before .before .op .given .1) (cc)
 
@@ -87,24 +33,10 @@ pub operate-spec : {M : Type 1} → statement M
 operate-spec =
     tie.close
     (tie.spec
-    enum-known-op
-    from-re-requires
-    enum-known-op-2
-    derivative-requires
-    enum-known-op-3
-    unary-requires
-    enum-known-op-4
-    binary-requires
-    enum-known-op-5
-    by-float-requires
-    enum-known-op-6
-    atan2-requires
-    enum-told
-    mul-add-requires
-    enum-known-op-7
-    powd-requires
-    enum-known-op-8
-    apply-requires
+    (λ c. search needs) (λ c κs. search needs) (λ c. search needs) (λ c κs. search needs) (λ c. search needs)
+    (λ c κs. search needs) (λ c. search needs) (λ c κs. search needs) (λ c. search needs) (λ c κs. search needs)
+    (λ c. search needs) (λ c κs. search needs) (λ c. search needs) (λ c κs. search needs) (λ c. search needs)
+    (λ c κs. search needs) (λ c. search needs) (λ c κs. search needs)
     returns
     returns-2
     returns-3

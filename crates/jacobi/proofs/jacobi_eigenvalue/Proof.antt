@@ -15,9 +15,6 @@ fits c =
     let s = c .before .before .before .before .before .args in
     jacobi-fits 2 (s .n) (length (now (s .a))) (s .limit) (length (now (s .values))) (length (now (s .vectors))) (sym (c .before .refusal .ensures) ∙ c .if1 .left)
 
-refusal-requires : tie.Need-refusal-requires
-refusal-requires c κs = search needs
-
 returns : tie.Need-returns
 returns c = jacobi-refused dualAlgebra dualLayout _ _ _ _ _ _ (c .before .refusal .ensures) (c .if1 .taken)
 
@@ -31,12 +28,6 @@ run-up-to-32-requires c κs =
     let f = fits (c .before .before .before) in
     (square-of _ _ (f .small) (f .input), (square-of _ _ (f .small) (f .vectors), (f .values, ((f .some, f .small), f .limit))))
 
-same-length : tie.Need-same-length
-same-length c = search needs
-
-same-length-2 : tie.Need-same-length-2
-same-length-2 c = search needs
-
 returns-2 : tie.Need-returns-2
 returns-2 c =
     let e = c .before .before .before .before .before .before .before .before in
@@ -44,12 +35,6 @@ returns-2 c =
     let d = f .values in
     let v = f .vectors in
     entry-done _ _ _ _ _ _ _ _ _ _ (sym (e .before .refusal .ensures) ∙ e .if1 .left) (omega arith) (omega arith) (c .before .before .before .before .run-up-to-8 .ensures)
-
-same-length-3 : tie.Need-same-length-3
-same-length-3 c = search needs
-
-same-length-4 : tie.Need-same-length-4
-same-length-4 c = search needs
 
 returns-3 : tie.Need-returns-3
 returns-3 c =
@@ -63,13 +48,11 @@ pub jacobi-eigenvalue-spec : {M : Type 1} → statement M
 jacobi-eigenvalue-spec =
     tie.close
     (tie.spec
-    refusal-requires
+    (λ c κs. search needs)
     returns
     run-up-to-8-requires
     run-up-to-32-requires
-    same-length
-    same-length-2
+    (λ c. search needs) (λ c. search needs)
     returns-2
-    same-length-3
-    same-length-4
+    (λ c. search needs) (λ c. search needs)
     returns-3)

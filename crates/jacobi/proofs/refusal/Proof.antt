@@ -21,9 +21,6 @@ mul-full-2 c = omega (arith, few 2 _ (c .before .if1 .left) (omega arith))
 returns-3 : tie.Need-returns-3
 returns-3 c = rw (le-ltb 32 _ (c .before .before .if1 .left), ne-eqb _ 0 (c .before .if2 .left), ne-eqb _ _ (c .if3 .taken)) refl
 
-mul-if4 : tie.Need-mul-if4
-mul-if4 c = search needs
-
 returns-4 : tie.Need-returns-4
 returns-4 c = rw (le-ltb 32 _ (c .before .before .before .if1 .left), ne-eqb _ 0 (c .before .before .if2 .left), eq-eqb _ _ (c .before .if3 .left), ne-eqb _ _ (c .if4 .taken)) refl
 
@@ -45,7 +42,7 @@ refusal-spec =
     mul-full
     mul-full-2
     returns-3
-    mul-if4
+    (λ c. search needs)
     returns-4
     returns-5
     returns-6

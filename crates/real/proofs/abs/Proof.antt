@@ -4,9 +4,6 @@ use Rattle.real.proofs.abs.Tie as tie
 use Rattle.real.proofs.SignBit.{yes, no}
 use Rattle.real.specs.Sign.{absOf}
 
-is-negative-requires : tie.Need-is-negative-requires
-is-negative-requires c κs = search needs
-
 returns : tie.Need-returns
 unfolding absOf
 returns c = yes _ _ (c .before .is-negative .ensures) (c .if1 .taken)
@@ -16,4 +13,7 @@ unfolding absOf
 returns-2 c = no _ _ (c .before .is-negative .ensures) (c .if1 .left)
 
 pub abs-spec : {M : Type 1} → statement M
-abs-spec = tie.close (tie.spec is-negative-requires returns returns-2)
+abs-spec = tie.close (tie.spec
+    (λ c κs. search needs)
+    returns
+    returns-2)

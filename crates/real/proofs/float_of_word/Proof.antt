@@ -13,8 +13,8 @@ returns c = sym (above-is-nan (c .before .args .w) (c .if1 .taken))
 float-from-bits-result : tie.Need-float-from-bits-result
 float-from-bits-result c = rest-is-not (c .before .args .w) (c .if1 .left)
 
-returns-2 : tie.Need-returns-2
-returns-2 c = search needs
-
 pub float-of-word-spec : {M : Type 1} → statement M
-float-of-word-spec = tie.close (tie.spec returns float-from-bits-result returns-2)
+float-of-word-spec = tie.close (tie.spec
+    returns
+    float-from-bits-result
+    (λ c. search needs))

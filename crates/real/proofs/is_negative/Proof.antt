@@ -15,4 +15,7 @@ returns-2 : tie.Need-returns-2
 returns-2 c = sign-bit binary64 (c .before .args .x) (search needs) (equal-is-not (c .before .args .x) (c .if1 .left))
 
 pub is-negative-spec : {M : Type 1} → statement M
-is-negative-spec = tie.close (tie.spec returns float-to-bits-result returns-2)
+is-negative-spec = tie.close (tie.spec
+    returns
+    float-to-bits-result
+    returns-2)

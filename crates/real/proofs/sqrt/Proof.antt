@@ -18,9 +18,6 @@ float-to-bits-b c = above-no-nan (c .before .args .x) (c .if1 .taken)
 root-bits-requires : tie.Need-root-bits-requires
 root-bits-requires c κs = (above-bits (c .before .before .args .x) (held (c .before .before)) (c .before .if1 .taken), c .if2 .taken)
 
-float-from-bits-result : tie.Need-float-from-bits-result
-float-from-bits-result c = search needs
-
 returns : tie.Need-returns
 returns c =
     let start = c .before .before .before in
@@ -41,7 +38,7 @@ sqrt-spec =
     (tie.spec
     float-to-bits-b
     root-bits-requires
-    float-from-bits-result
+    (λ c. search needs)
     returns
     returns-2
     returns-3

@@ -17,8 +17,8 @@ returns c =
 float-to-bits-result : tie.Need-float-to-bits-result
 float-to-bits-result c = equal-is-not (c .before .args .x) (c .if1 .left)
 
-returns-2 : tie.Need-returns-2
-returns-2 c = search needs
-
 pub word-of-float-spec : {M : Type 1} → statement M
-word-of-float-spec = tie.close (tie.spec returns float-to-bits-result returns-2)
+word-of-float-spec = tie.close (tie.spec
+    returns
+    float-to-bits-result
+    (λ c. search needs))

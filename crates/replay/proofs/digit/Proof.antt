@@ -9,9 +9,6 @@ returns : tie.Need-returns
 unfolding digitOf
 returns c = simp (lt-ltb _ _ (c .if1 .taken))
 
-cast-result : tie.Need-cast-result
-cast-result c = search needs
-
 returns-2 : tie.Need-returns-2
 unfolding digitOf
 returns-2 c = simp (le-ltb _ _ (c .before .if1 .left), le-leb _ _ (c .if2 .taken))
@@ -19,12 +16,6 @@ returns-2 c = simp (le-ltb _ _ (c .before .if1 .left), le-leb _ _ (c .if2 .taken
 returns-3 : tie.Need-returns-3
 unfolding digitOf
 returns-3 c = simp (le-ltb _ _ (c .before .before .if1 .left), lt-leb _ _ (c .before .if2 .left), lt-ltb _ _ (c .if3 .taken))
-
-add-result : tie.Need-add-result
-add-result c = search needs
-
-cast-result-2 : tie.Need-cast-result-2
-cast-result-2 c = search needs
 
 returns-4 : tie.Need-returns-4
 unfolding digitOf
@@ -37,4 +28,11 @@ returns-5 c = simp (le-ltb _ _ (c .before .before .before .if1 .left), lt-leb _ 
 pub digit-spec : {M : Type 1} → statement M
 digit-spec =
     tie.close
-    (tie.spec returns cast-result returns-2 returns-3 add-result cast-result-2 returns-4 returns-5)
+    (tie.spec
+    returns
+    (λ c. search needs)
+    returns-2
+    returns-3
+    (λ c. search needs) (λ c. search needs)
+    returns-4
+    returns-5)

@@ -31,4 +31,7 @@ returns-3 : tie.Need-returns-3
 returns-3 c = other _ _ (c .match .rest .0 .1) (c .match .rest .1)
 
 pub parted-spec : {M : Type 1} → statement M
-parted-spec = tie.close (tie.spec returns returns-2 returns-3)
+parted-spec = tie.close (tie.spec
+    returns
+    returns-2
+    returns-3)

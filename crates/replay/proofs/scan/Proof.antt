@@ -10,18 +10,6 @@ returns : tie.Need-returns
 unfolding seenAfter
 returns c = simp (c .if1 .taken)
 
-digit-requires : tie.Need-digit-requires
-digit-requires c κs = search needs
-
-mul-t16 : tie.Need-mul-t16
-mul-t16 c = search needs
-
-add-t18 : tie.Need-add-t18
-add-t18 c = search needs
-
-add-t22 : tie.Need-add-t22
-add-t22 c = search needs
-
 returns-2 : tie.Need-returns-2
 unfolding seenAfter
 returns-2 c = simp (c .before .before .before .if1 .left, sym (c .before .before .digit .ensures), lt-ltb _ _ (c .before .if2 .taken), lt-ltb _ _ (c .if3 .taken))
@@ -29,9 +17,6 @@ returns-2 c = simp (c .before .before .before .if1 .left, sym (c .before .before
 returns-3 : tie.Need-returns-3
 unfolding seenAfter
 returns-3 c = simp (c .before .before .before .if1 .left, sym (c .before .before .digit .ensures), lt-ltb _ _ (c .before .if2 .taken), le-ltb _ _ (c .if3 .left))
-
-parted-requires : tie.Need-parted-requires
-parted-requires c κs = search needs
 
 returns-4 : tie.Need-returns-4
 unfolding seenAfter
@@ -42,11 +27,8 @@ scan-spec =
     tie.close
     (tie.spec
     returns
-    digit-requires
-    mul-t16
-    add-t18
-    add-t22
+    (λ c κs. search needs) (λ c. search needs) (λ c. search needs) (λ c. search needs)
     returns-2
     returns-3
-    parted-requires
+    (λ c κs. search needs)
     returns-4)

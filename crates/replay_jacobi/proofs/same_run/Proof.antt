@@ -5,23 +5,8 @@ use borrow.Author.Needs.{needs}
 use Rattle.replay_jacobi.proofs.same_run.Statement.{statement}
 use Rattle.replay_jacobi.proofs.same_run.Tie as tie
 
-enum-known-answer : tie.Need-enum-known-answer
-enum-known-answer c = search needs
-
-enum-told : tie.Need-enum-told
-enum-told c = search needs
-
-returns : tie.Need-returns
-returns c = search needs
-
 returns-2 : tie.Need-returns-2
 returns-2 c = rw (c .before .before .answer .given .1, ne-eqb _ _ (c .if1 .taken))
-
-same-floats-requires : tie.Need-same-floats-requires
-same-floats-requires c κs = search needs
-
-same-floats-requires-2 : tie.Need-same-floats-requires-2
-same-floats-requires-2 c κs = search needs
 
 returns-3 : tie.Need-returns-3
 returns-3 c = rw (c .before .before .before .before .before .answer .given .1, eq-eqb _ _ (c .before .before .before .if1 .left), sym (c .before .before .same-floats .ensures) ∙ c .before .if2 .taken) (c .same-floats2 .ensures)
@@ -33,11 +18,8 @@ pub same-run-spec : {M : Type 1} → statement M
 same-run-spec =
     tie.close
     (tie.spec
-    enum-known-answer
-    enum-told
-    returns
+    (λ c. search needs) (λ c. search needs) (λ c. search needs)
     returns-2
-    same-floats-requires
-    same-floats-requires-2
+    (λ c κs. search needs) (λ c κs. search needs)
     returns-3
     returns-4)

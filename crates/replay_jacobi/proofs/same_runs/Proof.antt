@@ -4,12 +4,6 @@ use borrow.Author.Needs.{needs}
 use Rattle.replay_jacobi.proofs.same_runs.Statement.{statement}
 use Rattle.replay_jacobi.proofs.same_runs.Tie as tie
 
-same-run-requires : tie.Need-same-run-requires
-same-run-requires c κs = search needs
-
-same-run-requires-2 : tie.Need-same-run-requires-2
-same-run-requires-2 c κs = search needs
-
 returns : tie.Need-returns
 returns c = rw (sym (c .before .before .same-run .ensures) ∙ c .before .if1 .taken) (c .same-run2 .ensures)
 
@@ -17,4 +11,7 @@ returns-2 : tie.Need-returns-2
 returns-2 c = rw (sym (c .before .same-run .ensures) ∙ c .if1 .left)
 
 pub same-runs-spec : {M : Type 1} → statement M
-same-runs-spec = tie.close (tie.spec same-run-requires same-run-requires-2 returns returns-2)
+same-runs-spec = tie.close (tie.spec
+    (λ c κs. search needs) (λ c κs. search needs)
+    returns
+    returns-2)

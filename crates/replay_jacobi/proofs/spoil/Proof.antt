@@ -45,24 +45,6 @@ abbrev μ-loop : tie.MeasureT-loop
 loop-holds : tie.Need-loop-holds Inv-loop μ-loop
 loop-holds c = record { long = refl; filled = λ j h. absurd (omega arith); rest = λ j h. refl }
 
-mul-spoiled : tie.Need-mul-spoiled Inv-loop μ-loop
-mul-spoiled c = search needs
-
-slice-read-spoiled : tie.Need-slice-read-spoiled Inv-loop μ-loop
-slice-read-spoiled c = search needs
-
-spoiled-requires : tie.Need-spoiled-requires Inv-loop μ-loop
-spoiled-requires c κs = search needs
-
-mul-a : tie.Need-mul-a Inv-loop μ-loop
-mul-a c = search needs
-
-slice-write-a : tie.Need-slice-write-a Inv-loop μ-loop
-slice-write-a c = search needs
-
-add-k : tie.Need-add-k Inv-loop μ-loop
-add-k c = search needs
-
 loop-less : tie.Need-loop-less Inv-loop μ-loop
 loop-less c = omega (arith, c .before .before .before .loop .inv .long)
 
@@ -78,16 +60,10 @@ returns c = all _ _ _ _ (c .before .loop .inv) (c .loop-test .left)
 pub spoil-spec : {M : Type 1} → statement M
 spoil-spec =
     tie.close
-    (tie.spec
-    Inv-loop
-    μ-loop
+    (tie.spec Inv-loop μ-loop
     loop-holds
-    mul-spoiled
-    slice-read-spoiled
-    spoiled-requires
-    mul-a
-    slice-write-a
-    add-k
+    (λ c. search needs) (λ c. search needs) (λ c κs. search needs) (λ c. search needs) (λ c. search needs)
+    (λ c. search needs)
     loop-less
     loop-again
     same-length

@@ -9,18 +9,9 @@ returns : tie.Need-returns
 unfolding spoiledAt
 returns c = simp (eq-eqb _ _ (c .if1 .taken))
 
-div-if2 : tie.Need-div-if2
-div-if2 c = search needs
-
-rem-if2 : tie.Need-rem-if2
-rem-if2 c = search needs
-
 returns-2 : tie.Need-returns-2
 unfolding spoiledAt
 returns-2 c = simp (ne-eqb _ _ (c .before .if1 .left), le-leb _ _ (c .if2 .taken))
-
-float-of-word-requires : tie.Need-float-of-word-requires
-float-of-word-requires c κs = search needs
 
 returns-3 : tie.Need-returns-3
 unfolding spoiledAt
@@ -33,4 +24,10 @@ returns-4 c = simp (ne-eqb _ _ (c .before .before .if1 .left), lt-leb _ _ (c .be
 pub spoiled-spec : {M : Type 1} → statement M
 spoiled-spec =
     tie.close
-    (tie.spec returns div-if2 rem-if2 returns-2 float-of-word-requires returns-3 returns-4)
+    (tie.spec
+    returns
+    (λ c. search needs) (λ c. search needs)
+    returns-2
+    (λ c κs. search needs)
+    returns-3
+    returns-4)

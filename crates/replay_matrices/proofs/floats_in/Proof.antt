@@ -15,4 +15,7 @@ returns : tie.Need-returns
 returns c = (search needs, omega (arith, mul-le-mul (mul-le-mul (c .pre .0) (c .pre .0)) (c .pre .1)))
 
 pub floats-in-spec : {M : Type 1} → statement M
-floats-in-spec = tie.close (tie.spec mul-result mul-result-2 returns)
+floats-in-spec = tie.close (tie.spec
+    mul-result
+    mul-result-2
+    returns)

@@ -21,31 +21,10 @@ abbrev μ-loop : tie.MeasureT-loop
 loop-holds : tie.Need-loop-holds Inv-loop μ-loop
 loop-holds c = (refl, λ k h. absurd (omega arith))
 
-word-at-requires : tie.Need-word-at-requires Inv-loop μ-loop
-word-at-requires c κs = search needs
-
-float-of-word-requires : tie.Need-float-of-word-requires Inv-loop μ-loop
-float-of-word-requires c κs = search needs
-
-mul-floats : tie.Need-mul-floats Inv-loop μ-loop
-mul-floats c = search needs
-
-slice-write-floats : tie.Need-slice-write-floats Inv-loop μ-loop
-slice-write-floats c = search needs
-
-add-i : tie.Need-add-i Inv-loop μ-loop
-add-i c = search needs
-
-loop-less : tie.Need-loop-less Inv-loop μ-loop
-loop-less c = search needs
-
 loop-again : tie.Need-loop-again Inv-loop μ-loop
 loop-again c =
     let at = c .before .before .before in
     (simp length-set (at .loop .inv .0), rw (c .float-of-word .ensures ∙ ap (ofBits binary64) (c .before .word-at .ensures)) (filled-more nan (λ k. ofBits binary64 (getD (now (at .before .before .before .args .words)) k 0)) (at .loop .floats) (at .loop .i) (c .before .before .loop-test .taken) (at .loop .inv .1)))
-
-same-length : tie.Need-same-length Inv-loop μ-loop
-same-length c = search needs
 
 returns : tie.Need-returns Inv-loop μ-loop
 returns c =
@@ -56,16 +35,10 @@ returns c =
 pub floats-of-spec : {M : Type 1} → statement M
 floats-of-spec =
     tie.close
-    (tie.spec
-    Inv-loop
-    μ-loop
+    (tie.spec Inv-loop μ-loop
     loop-holds
-    word-at-requires
-    float-of-word-requires
-    mul-floats
-    slice-write-floats
-    add-i
-    loop-less
+    (λ c κs. search needs) (λ c κs. search needs) (λ c. search needs) (λ c. search needs) (λ c. search needs)
+    (λ c. search needs)
     loop-again
-    same-length
+    (λ c. search needs)
     returns)

@@ -26,29 +26,8 @@ returns c = sym (alike-lengths isWordOf 0 nan _ _ (c .if1 .taken))
 loop-holds : tie.Need-loop-holds Inv-loop μ-loop
 loop-holds c = (search needs, c .if1 .left, below-none _)
 
-mul-if2 : tie.Need-mul-if2 Inv-loop μ-loop
-mul-if2 c = search needs
-
-shared-slice-read-if2 : tie.Need-shared-slice-read-if2 Inv-loop μ-loop
-shared-slice-read-if2 c = search needs
-
-mul-word-of-float : tie.Need-mul-word-of-float Inv-loop μ-loop
-mul-word-of-float c = search needs
-
-shared-slice-read-word-of-float : tie.Need-shared-slice-read-word-of-float Inv-loop μ-loop
-shared-slice-read-word-of-float c = search needs
-
-word-of-float-requires : tie.Need-word-of-float-requires Inv-loop μ-loop
-word-of-float-requires c κs = search needs
-
 returns-2 : tie.Need-returns-2 Inv-loop μ-loop
 returns-2 c = sym (alike-false isWordOf 0 nan _ _ (c .before .before .before .before .before .loop .i) (search needs) (search needs) (ne-eqb _ _ (λ e. c .if2 .taken (e ∙ sym (c .before .word-of-float .ensures)))))
-
-add-i : tie.Need-add-i Inv-loop μ-loop
-add-i c = search needs
-
-loop-less : tie.Need-loop-less Inv-loop μ-loop
-loop-less c = search needs
 
 loop-again : tie.Need-loop-again Inv-loop μ-loop
 loop-again c = (search needs, search needs, below-more _ _ (c .before .before .before .before .before .loop .inv .2) (eq-eqb _ _ (c .if2 .left ∙ c .before .word-of-float .ensures)))
@@ -59,18 +38,11 @@ returns-3 c = sym (alike-true isWordOf 0 nan _ _ (search needs) (λ k h. c .befo
 pub same-floats-spec : {M : Type 1} → statement M
 same-floats-spec =
     tie.close
-    (tie.spec
-    Inv-loop
-    μ-loop
+    (tie.spec Inv-loop μ-loop
     returns
     loop-holds
-    mul-if2
-    shared-slice-read-if2
-    mul-word-of-float
-    shared-slice-read-word-of-float
-    word-of-float-requires
+    (λ c. search needs) (λ c. search needs) (λ c. search needs) (λ c. search needs) (λ c κs. search needs)
     returns-2
-    add-i
-    loop-less
+    (λ c. search needs) (λ c. search needs)
     loop-again
     returns-3)

@@ -39,32 +39,17 @@ module _ (wanted got g : Numbers) (numbers words order : List ℕ) (factors : Li
       unfolding sameLu
       done-order h z f = rw (← e, eq-eqb _ _ n, eq-eqb _ _ b, eq-eqb _ _ h, ← z, f)
 
-lu-numbers-requires : tie.Need-lu-numbers-requires
-lu-numbers-requires c κs = search needs
-
 returns : tie.Need-returns
 returns c = number-differs _ _ _ _ _ _ _ (c .before .before .before .lu-numbers .ensures) (c .if1 .taken)
 
 returns-2 : tie.Need-returns-2
 returns-2 c = beside-differs _ _ _ _ _ _ _ (c .before .before .before .before .before .before .lu-numbers .ensures) (c .before .before .before .if1 .left) (c .if2 .taken)
 
-zero-order-requires : tie.Need-zero-order-requires
-zero-order-requires c κs = search needs
-
-zero-floats-requires : tie.Need-zero-floats-requires
-zero-floats-requires c κs = search needs
-
 returns-3 : tie.Need-returns-3
 returns-3 c = refused _ _ _ _ _ _ _ (c .before .before .before .before .before .before .before .before .before .before .before .lu-numbers .ensures) (c .before .before .before .before .before .before .before .before .if1 .left) (c .before .before .before .before .before .if2 .left) (c .before .before .before .if3 .taken) (sym (c .before .before .zero-order .ensures) ∙ c .before .if4 .taken) (c .zero-floats .ensures)
 
 returns-4 : tie.Need-returns-4
 returns-4 c = refused-order _ _ _ _ _ _ _ (c .before .before .before .before .before .before .before .before .before .before .lu-numbers .ensures) (c .before .before .before .before .before .before .before .if1 .left) (c .before .before .before .before .if2 .left) (c .before .before .if3 .taken) (c .before .zero-order .ensures) (c .if4 .left)
-
-same-order-requires : tie.Need-same-order-requires
-same-order-requires c κs = search needs
-
-same-floats-requires : tie.Need-same-floats-requires
-same-floats-requires c κs = search needs
 
 returns-5 : tie.Need-returns-5
 returns-5 c = done _ _ _ _ _ _ _ (c .before .before .before .before .before .before .before .before .before .before .before .lu-numbers .ensures) (c .before .before .before .before .before .before .before .before .if1 .left) (c .before .before .before .before .before .if2 .left) (c .before .before .before .if3 .left) (sym (c .before .before .same-order .ensures) ∙ c .before .if5 .taken) (c .same-floats .ensures)
@@ -76,14 +61,12 @@ pub same-lu-spec : {M : Type 1} → statement M
 same-lu-spec =
     tie.close
     (tie.spec
-    lu-numbers-requires
+    (λ c κs. search needs)
     returns
     returns-2
-    zero-order-requires
-    zero-floats-requires
+    (λ c κs. search needs) (λ c κs. search needs)
     returns-3
     returns-4
-    same-order-requires
-    same-floats-requires
+    (λ c κs. search needs) (λ c κs. search needs)
     returns-5
     returns-6)

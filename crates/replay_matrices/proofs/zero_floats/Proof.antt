@@ -24,23 +24,8 @@ abbrev μ-loop : tie.MeasureT-loop
 loop-holds : tie.Need-loop-holds Inv-loop μ-loop
 loop-holds c = (search needs, below-none _)
 
-mul-word-of-float : tie.Need-mul-word-of-float Inv-loop μ-loop
-mul-word-of-float c = search needs
-
-shared-slice-read-word-of-float : tie.Need-shared-slice-read-word-of-float Inv-loop μ-loop
-shared-slice-read-word-of-float c = search needs
-
-word-of-float-requires : tie.Need-word-of-float-requires Inv-loop μ-loop
-word-of-float-requires c κs = search needs
-
 returns : tie.Need-returns Inv-loop μ-loop
 returns c = sym (zeros-false isWordOf nan (now (c .before .before .before .before .before .before .args .floats)) (c .before .before .before .before .loop .i) (search needs) (ne-eqb _ _ (λ e. c .if1 .taken (sym (e ∙ sym (c .before .word-of-float .ensures))))))
-
-add-i : tie.Need-add-i Inv-loop μ-loop
-add-i c = search needs
-
-loop-less : tie.Need-loop-less Inv-loop μ-loop
-loop-less c = search needs
 
 loop-again : tie.Need-loop-again Inv-loop μ-loop
 loop-again c = (search needs, below-more _ _ (c .before .before .before .before .loop .inv .1) (eq-eqb _ _ (sym (c .if1 .left) ∙ c .before .word-of-float .ensures)))
@@ -51,15 +36,10 @@ returns-2 c = sym (zeros-true isWordOf nan (now (c .before .before .before .args
 pub zero-floats-spec : {M : Type 1} → statement M
 zero-floats-spec =
     tie.close
-    (tie.spec
-    Inv-loop
-    μ-loop
+    (tie.spec Inv-loop μ-loop
     loop-holds
-    mul-word-of-float
-    shared-slice-read-word-of-float
-    word-of-float-requires
+    (λ c. search needs) (λ c. search needs) (λ c κs. search needs)
     returns
-    add-i
-    loop-less
+    (λ c. search needs) (λ c. search needs)
     loop-again
     returns-2)

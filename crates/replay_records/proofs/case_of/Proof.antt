@@ -15,55 +15,13 @@ same-by : {r : Bool} (wanted : ℕ) (words : List ℕ) (number : ℕ) (out : Lis
     → r ≡ (sameAnswer wanted words number out && m) → r ≡ (sameAnswer wanted words (given .0) (given .1) && m)
 same-by wanted words number out m given e h = rw (← e) h
 
-cast-answer : tie.Need-cast-answer
-cast-answer c = search needs
-
-answer-requires : tie.Need-answer-requires
-answer-requires c κs = search needs
-
-cast-number : tie.Need-cast-number
-cast-number c = search needs
-
-same-case-requires : tie.Need-same-case-requires
-same-case-requires c κs = search needs
-
-same-length : tie.Need-same-length
-same-length c = search needs
-
-same-length-2 : tie.Need-same-length-2
-same-length-2 c = search needs
-
-same-length-3 : tie.Need-same-length-3
-same-length-3 c = search needs
-
 returns : tie.Need-returns
 unfolding sameRecorded
 returns c = sym (c .if1 .taken) ∙ same-by _ _ _ _ _ _ (rw (toZ-ofZ w32 (c .before .before .before .before .before .before .before .before .before .before .before .before .before .before .before .before .before .before .before .args .exponent) (search needs)) at (c .before .before .before .before .before .before .before .before .before .answer .ensures)) (c .before .same-case .ensures)
 
-case-requires : tie.Need-case-requires
-case-requires c κs = search needs
-
-same-length-4 : tie.Need-same-length-4
-same-length-4 c = search needs
-
-same-length-5 : tie.Need-same-length-5
-same-length-5 c = search needs
-
-same-length-6 : tie.Need-same-length-6
-same-length-6 c = search needs
-
 returns-2 : tie.Need-returns-2
 unfolding sameRecorded
 returns-2 c = sym (c .before .before .before .if1 .left) ∙ same-by _ _ _ _ _ _ (rw (toZ-ofZ w32 (c .before .before .before .before .before .before .before .before .before .before .before .before .before .before .before .before .before .before .before .before .before .before .args .exponent) (search needs)) at (c .before .before .before .before .before .before .before .before .before .before .before .before .answer .ensures)) (c .before .before .before .before .same-case .ensures)
-
-same-length-7 : tie.Need-same-length-7
-same-length-7 c = search needs
-
-same-length-8 : tie.Need-same-length-8
-same-length-8 c = search needs
-
-same-length-9 : tie.Need-same-length-9
-same-length-9 c = search needs
 
 returns-3 : tie.Need-returns-3
 unfolding sameRecorded
@@ -73,20 +31,10 @@ pub case-of-spec : {M : Type 1} → statement M
 case-of-spec =
     tie.close
     (tie.spec
-    cast-answer
-    answer-requires
-    cast-number
-    same-case-requires
-    same-length
-    same-length-2
-    same-length-3
+    (λ c. search needs) (λ c κs. search needs) (λ c. search needs) (λ c κs. search needs) (λ c. search needs)
+    (λ c. search needs) (λ c. search needs)
     returns
-    case-requires
-    same-length-4
-    same-length-5
-    same-length-6
+    (λ c κs. search needs) (λ c. search needs) (λ c. search needs) (λ c. search needs)
     returns-2
-    same-length-7
-    same-length-8
-    same-length-9
+    (λ c. search needs) (λ c. search needs) (λ c. search needs)
     returns-3)

@@ -17,4 +17,7 @@ unfolding sameOutcome
 returns-3 c = rw (eq-eqb _ _ (c .before .before .before .before .before .if1 .left), eq-eqb _ _ (c .before .before .if2 .left))
 
 pub same-spec : {M : Type 1} → statement M
-same-spec = tie.close (tie.spec returns returns-2 returns-3)
+same-spec = tie.close (tie.spec
+    returns
+    returns-2
+    returns-3)

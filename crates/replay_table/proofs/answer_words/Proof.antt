@@ -4,9 +4,6 @@ use borrow.Author.Needs.{needs}
 use Rattle.replay_table.proofs.answer_words.Statement.{statement}
 use Rattle.replay_table.proofs.answer_words.Tie as tie
 
-add-result : tie.Need-add-result
-add-result c = search needs
-
 returns : tie.Need-returns
 returns c = (rw (c .match .keys1), (search needs, search needs))
 
@@ -17,4 +14,8 @@ returns-3 : tie.Need-returns-3
 returns-3 c = (rw (ne-eqb _ _ (c .match .rest .0 .1), ne-eqb _ _ (c .match .rest .1)), (search needs, search needs))
 
 pub answer-words-spec : {M : Type 1} → statement M
-answer-words-spec = tie.close (tie.spec add-result returns returns-2 returns-3)
+answer-words-spec = tie.close (tie.spec
+    (λ c. search needs)
+    returns
+    returns-2
+    returns-3)

@@ -21,18 +21,9 @@ lower b h =
     let bits : 4294967295 - b ≡ 4294967296 - suc b = omega arith in
     ap (toZ w32) bits ∙ toZ-ofZ w32 (negsuc b) (record { sfits = omega arith })
 
-cast-result : tie.Need-cast-result
-cast-result c = search needs
-
 returns : tie.Need-returns
 unfolding exponentOf
 returns c = rw (le-leb _ _ (c .if1 .taken)) (upper _ (c .if1 .taken))
-
-sub-below : tie.Need-sub-below
-sub-below c = search needs
-
-cast-result-2 : tie.Need-cast-result-2
-cast-result-2 c = search needs
 
 returns-2 : tie.Need-returns-2
 unfolding exponentOf
@@ -44,4 +35,9 @@ returns-3 c = rw (lt-leb _ _ (c .before .if1 .left), lt-leb _ _ (c .if2 .left))
 
 pub exponent-spec : {M : Type 1} → statement M
 exponent-spec =
-    tie.close (tie.spec cast-result returns sub-below cast-result-2 returns-2 returns-3)
+    tie.close (tie.spec
+    (λ c. search needs)
+    returns
+    (λ c. search needs) (λ c. search needs)
+    returns-2
+    returns-3)

@@ -37,41 +37,8 @@ abbrev μ-loop : tie.MeasureT-loop
 loop-holds : tie.Need-loop-holds Inv-loop μ-loop
 loop-holds c = (refl, λ k h. absurd (omega arith))
 
-sub-shift : tie.Need-sub-shift Inv-loop μ-loop
-sub-shift c = search needs
-
-sub-shift-2 : tie.Need-sub-shift-2 Inv-loop μ-loop
-sub-shift-2 c = search needs
-
-mul-shift : tie.Need-mul-shift Inv-loop μ-loop
-mul-shift c = search needs
-
-shr-place : tie.Need-shr-place Inv-loop μ-loop
-shr-place c = search needs
-
-mul-out : tie.Need-mul-out Inv-loop μ-loop
-mul-out c = search needs
-
-element-copy-out-out : tie.Need-element-copy-out-out Inv-loop μ-loop
-element-copy-out-out c = search needs
-
-mul-out-2 : tie.Need-mul-out-2 Inv-loop μ-loop
-mul-out-2 c = search needs
-
-slice-write-out : tie.Need-slice-write-out Inv-loop μ-loop
-slice-write-out c = search needs
-
-add-i : tie.Need-add-i Inv-loop μ-loop
-add-i c = search needs
-
-loop-less : tie.Need-loop-less Inv-loop μ-loop
-loop-less c = search needs
-
 loop-again : tie.Need-loop-again Inv-loop μ-loop
 loop-again c = turn (now (c .before .before .before .args .pool)) (c .before .before .before .args .places) (now (c .before .before .before .args .out)) (c .before .before .loop .out) (c .before .before .loop .i) (c .before .before .loop .inv .0) (c .before .before .loop .inv .1) (search needs)
-
-same-length : tie.Need-same-length Inv-loop μ-loop
-same-length c = search needs
 
 returns : tie.Need-returns Inv-loop μ-loop
 returns c = whole _ _ (now (c .before .before .args .out)) _ _ (c .before .loop .inv .0) (c .before .loop .inv .1) (c .loop-test .left)
@@ -79,20 +46,10 @@ returns c = whole _ _ (now (c .before .before .args .out)) _ _ (c .before .loop 
 pub record-of-spec : {M : Type 1} → statement M
 record-of-spec =
     tie.close
-    (tie.spec
-    Inv-loop
-    μ-loop
+    (tie.spec Inv-loop μ-loop
     loop-holds
-    sub-shift
-    sub-shift-2
-    mul-shift
-    shr-place
-    mul-out
-    element-copy-out-out
-    mul-out-2
-    slice-write-out
-    add-i
-    loop-less
+    (λ c. search needs) (λ c. search needs) (λ c. search needs) (λ c. search needs) (λ c. search needs)
+    (λ c. search needs) (λ c. search needs) (λ c. search needs) (λ c. search needs) (λ c. search needs)
     loop-again
-    same-length
+    (λ c. search needs)
     returns)

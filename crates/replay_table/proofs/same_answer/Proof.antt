@@ -9,12 +9,12 @@ returns : tie.Need-returns
 unfolding sameAnswer
 returns c = rw (ne-eqb _ _ (c .if1 .taken))
 
-same-words-requires : tie.Need-same-words-requires
-same-words-requires c κs = search needs
-
 returns-2 : tie.Need-returns-2
 unfolding sameAnswer
 returns-2 c = rw (eq-eqb _ _ (c .before .if1 .left)) (c .same-words .ensures)
 
 pub same-answer-spec : {M : Type 1} → statement M
-same-answer-spec = tie.close (tie.spec returns same-words-requires returns-2)
+same-answer-spec = tie.close (tie.spec
+    returns
+    (λ c κs. search needs)
+    returns-2)

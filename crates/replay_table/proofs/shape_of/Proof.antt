@@ -10,15 +10,12 @@ returns : tie.Need-returns
 unfolding shapeOf
 returns c = rw (List·getD-eq-default table 0 (c .if1 .taken))
 
-mul-row : tie.Need-mul-row
-mul-row c = search needs
-
-array-read-row : tie.Need-array-read-row
-array-read-row c = search needs
-
 returns-2 : tie.Need-returns-2
 unfolding shapeOf
 returns-2 c = refl
 
 pub shape-of-spec : {M : Type 1} → statement M
-shape-of-spec = tie.close (tie.spec returns mul-row array-read-row returns-2)
+shape-of-spec = tie.close (tie.spec
+    returns
+    (λ c. search needs) (λ c. search needs)
+    returns-2)

@@ -14,4 +14,7 @@ returns-3 : tie.Need-returns-3
 returns-3 c = rw (ne-eqb _ _ (c .match .rest .0 .1), ne-eqb _ _ (c .match .rest .1))
 
 pub truth-spec : {M : Type 1} → statement M
-truth-spec = tie.close (tie.spec returns returns-2 returns-3)
+truth-spec = tie.close (tie.spec
+    returns
+    returns-2
+    returns-3)

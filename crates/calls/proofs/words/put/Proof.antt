@@ -19,35 +19,11 @@ abbrev μ-loop : tie.MeasureT-loop
 loop-holds : tie.Need-loop-holds Inv-loop μ-loop
 loop-holds c = (refl, λ k h. absurd (omega arith))
 
-mul-word-of-float : tie.Need-mul-word-of-float Inv-loop μ-loop
-mul-word-of-float c = omega arith
-
-shared-slice-read-word-of-float : tie.Need-shared-slice-read-word-of-float Inv-loop μ-loop
-shared-slice-read-word-of-float c = omega arith
-
-word-of-float-requires : tie.Need-word-of-float-requires Inv-loop μ-loop
-word-of-float-requires c κs = omega arith
-
-mul-out : tie.Need-mul-out Inv-loop μ-loop
-mul-out c = omega arith
-
-slice-write-out : tie.Need-slice-write-out Inv-loop μ-loop
-slice-write-out c = omega arith
-
-add-i : tie.Need-add-i Inv-loop μ-loop
-add-i c = omega arith
-
-loop-less : tie.Need-loop-less Inv-loop μ-loop
-loop-less c = omega arith
-
 loop-again : tie.Need-loop-again Inv-loop μ-loop
 loop-again c =
     let at = c .before .before .before in
     let parts = now (at .before .before .before .args .parts) in
     (simp length-set (at .loop .inv .0), rw (c .word-of-float .ensures) (filled-more 0 (λ k. toBits binary64 (getD parts k nan)) (at .loop .out) (at .loop .i) (c .before .before .loop-test .taken) (at .loop .inv .1)))
-
-same-length : tie.Need-same-length Inv-loop μ-loop
-same-length c = omega arith
 
 returns : tie.Need-returns Inv-loop μ-loop
 returns c =
@@ -59,17 +35,10 @@ returns c =
 pub put-spec : {M : Type 1} → statement M
 put-spec =
     tie.close
-    (tie.spec
-    Inv-loop
-    μ-loop
+    (tie.spec Inv-loop μ-loop
     loop-holds
-    mul-word-of-float
-    shared-slice-read-word-of-float
-    word-of-float-requires
-    mul-out
-    slice-write-out
-    add-i
-    loop-less
+    (λ c. omega arith) (λ c. omega arith) (λ c κs. omega arith) (λ c. omega arith) (λ c. omega arith)
+    (λ c. omega arith) (λ c. omega arith)
     loop-again
-    same-length
+    (λ c. omega arith)
     returns)

@@ -3,12 +3,11 @@ use Rattle.derivatives.specs.Series.{acosSeries}
 use Rattle.derivatives.proofs.Series.acos.Statement.{statement}
 use Rattle.derivatives.proofs.Series.acos.Tie as tie
 
-sqrt-requires : tie.Need-sqrt-requires
-sqrt-requires c κs = search needs
-
 returns : tie.Need-returns
 unfolding acosSeries
 returns c = rw (c .sqrt .ensures)
 
 pub acos-spec : {M : Type 1} → statement M
-acos-spec = tie.close (tie.spec sqrt-requires returns)
+acos-spec = tie.close (tie.spec
+    (λ c κs. search needs)
+    returns)

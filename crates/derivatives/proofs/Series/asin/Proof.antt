@@ -3,12 +3,11 @@ use Rattle.derivatives.specs.Series.{asinSeries}
 use Rattle.derivatives.proofs.Series.asin.Statement.{statement}
 use Rattle.derivatives.proofs.Series.asin.Tie as tie
 
-sqrt-requires : tie.Need-sqrt-requires
-sqrt-requires c κs = search needs
-
 returns : tie.Need-returns
 unfolding asinSeries
 returns c = rw (c .sqrt .ensures)
 
 pub asin-spec : {M : Type 1} → statement M
-asin-spec = tie.close (tie.spec sqrt-requires returns)
+asin-spec = tie.close (tie.spec
+    (λ c κs. search needs)
+    returns)

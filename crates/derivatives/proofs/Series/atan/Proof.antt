@@ -8,4 +8,5 @@ unfolding atanSeries
 returns c = refl
 
 pub atan-spec : {M : Type 1} → statement M
-atan-spec = tie.close (tie.spec returns)
+atan-spec = tie.close (tie.spec
+    returns)

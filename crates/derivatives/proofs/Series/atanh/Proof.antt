@@ -8,4 +8,5 @@ unfolding atanhSeries
 returns c = refl
 
 pub atanh-spec : {M : Type 1} → statement M
-atanh-spec = tie.close (tie.spec returns)
+atanh-spec = tie.close (tie.spec
+    returns)

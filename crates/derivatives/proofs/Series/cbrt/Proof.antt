@@ -8,4 +8,5 @@ unfolding cbrtSeries
 returns c = refl
 
 pub cbrt-spec : {M : Type 1} → statement M
-cbrt-spec = tie.close (tie.spec returns)
+cbrt-spec = tie.close (tie.spec
+    returns)

@@ -8,4 +8,5 @@ unfolding cosSeries
 returns c = refl
 
 pub cos-spec : {M : Type 1} → statement M
-cos-spec = tie.close (tie.spec returns)
+cos-spec = tie.close (tie.spec
+    returns)

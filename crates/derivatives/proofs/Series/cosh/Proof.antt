@@ -8,4 +8,5 @@ unfolding coshSeries
 returns c = refl
 
 pub cosh-spec : {M : Type 1} → statement M
-cosh-spec = tie.close (tie.spec returns)
+cosh-spec = tie.close (tie.spec
+    returns)

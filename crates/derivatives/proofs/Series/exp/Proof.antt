@@ -8,4 +8,5 @@ unfolding expSeries
 returns c = refl
 
 pub exp-spec : {M : Type 1} → statement M
-exp-spec = tie.close (tie.spec returns)
+exp-spec = tie.close (tie.spec
+    returns)

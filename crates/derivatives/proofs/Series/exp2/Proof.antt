@@ -8,4 +8,5 @@ unfolding exp2Series
 returns c = refl
 
 pub exp2-spec : {M : Type 1} → statement M
-exp2-spec = tie.close (tie.spec returns)
+exp2-spec = tie.close (tie.spec
+    returns)

@@ -8,4 +8,5 @@ unfolding expM1Series
 returns c = refl
 
 pub exp-m1-spec : {M : Type 1} → statement M
-exp-m1-spec = tie.close (tie.spec returns)
+exp-m1-spec = tie.close (tie.spec
+    returns)

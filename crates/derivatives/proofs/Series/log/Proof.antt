@@ -3,12 +3,11 @@ use Rattle.derivatives.specs.Series.{logSeries}
 use Rattle.derivatives.proofs.Series.log.Statement.{statement}
 use Rattle.derivatives.proofs.Series.log.Tie as tie
 
-logarithm-requires : tie.Need-logarithm-requires
-logarithm-requires c κs = search needs
-
 returns : tie.Need-returns
 unfolding logSeries
 returns c = c .logarithm .ensures
 
 pub log-spec : {M : Type 1} → statement M
-log-spec = tie.close (tie.spec logarithm-requires returns)
+log-spec = tie.close (tie.spec
+    (λ c κs. search needs)
+    returns)

@@ -8,4 +8,5 @@ unfolding powfSeries
 returns c = refl
 
 pub powf-spec : {M : Type 1} → statement M
-powf-spec = tie.close (tie.spec returns)
+powf-spec = tie.close (tie.spec
+    returns)

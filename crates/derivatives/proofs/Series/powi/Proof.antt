@@ -4,9 +4,6 @@ use Rattle.derivatives.proofs.Falling.{one-less-fits, two-less-fits, se
 use Rattle.derivatives.proofs.Series.powi.Statement.{statement}
 use Rattle.derivatives.proofs.Series.powi.Tie as tie
 
-int-to-float-f1 : tie.Need-int-to-float-f1
-int-to-float-f1 c = search needs
-
 sub-f2 : tie.Need-sub-f2
 sub-f2 c =
     let e = c .before .args .exp in
@@ -18,9 +15,6 @@ mul-f2 c =
     let e = c .before .args .exp in
     let h = c .before .pre in
     rw (exp-back e h, one-less-back e h) (second-fits e h)
-
-int-to-float-f2 : tie.Need-int-to-float-f2
-int-to-float-f2 c = search needs
 
 sub-f3 : tie.Need-sub-f3
 sub-f3 c =
@@ -46,9 +40,6 @@ mul-f3-2 c =
     let h = c .before .before .pre in
     rw (exp-back e h, one-less-back e h, second-back e h, two-less-back e h) (third-fits e h)
 
-int-to-float-f3 : tie.Need-int-to-float-f3
-int-to-float-f3 c = search needs
-
 returns : tie.Need-returns
 unfolding powiSeries
 returns c =
@@ -60,13 +51,13 @@ pub powi-spec : {M : Type 1} → statement M
 powi-spec =
     tie.close
     (tie.spec
-    int-to-float-f1
+    (λ c. search needs)
     sub-f2
     mul-f2
-    int-to-float-f2
+    (λ c. search needs)
     sub-f3
     mul-f3
     sub-f3-2
     mul-f3-2
-    int-to-float-f3
+    (λ c. search needs)
     returns)

@@ -8,4 +8,5 @@ unfolding recipSeries
 returns c = refl
 
 pub recip-spec : {M : Type 1} → statement M
-recip-spec = tie.close (tie.spec returns)
+recip-spec = tie.close (tie.spec
+    returns)

@@ -8,4 +8,5 @@ unfolding sinSeries
 returns c = refl
 
 pub sin-spec : {M : Type 1} → statement M
-sin-spec = tie.close (tie.spec returns)
+sin-spec = tie.close (tie.spec
+    returns)

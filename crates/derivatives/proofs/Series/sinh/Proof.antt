@@ -8,4 +8,5 @@ unfolding sinhSeries
 returns c = refl
 
 pub sinh-spec : {M : Type 1} → statement M
-sinh-spec = tie.close (tie.spec returns)
+sinh-spec = tie.close (tie.spec
+    returns)

@@ -8,4 +8,5 @@ unfolding dualAdd
 returns c = refl
 
 pub add-spec : {M : Type 1} → statement M
-add-spec = tie.close (tie.spec returns)
+add-spec = tie.close (tie.spec
+    returns)

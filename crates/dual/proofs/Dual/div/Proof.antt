@@ -8,4 +8,5 @@ unfolding dualDiv
 returns c = refl
 
 pub div-spec : {M : Type 1} → statement M
-div-spec = tie.close (tie.spec returns)
+div-spec = tie.close (tie.spec
+    returns)

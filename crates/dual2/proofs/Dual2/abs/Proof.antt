@@ -2,12 +2,6 @@ use borrow.Author.Needs.{needs}
 use Rattle.dual2.proofs.Dual2.abs.Statement.{statement}
 use Rattle.dual2.proofs.Dual2.abs.Tie as tie
 
-is-negative-requires : tie.Need-is-negative-requires
-is-negative-requires c κs = search needs
-
-neg-requires : tie.Need-neg-requires
-neg-requires c κs = search needs
-
 returns : tie.Need-returns
 returns c = rw (← c .before .before .is-negative .ensures, c .before .if1 .taken) (c .neg .ensures)
 
@@ -15,4 +9,7 @@ returns-2 : tie.Need-returns-2
 returns-2 c = rw (← c .before .is-negative .ensures, c .if1 .left)
 
 pub abs-spec : {M : Type 1} → statement M
-abs-spec = tie.close (tie.spec is-negative-requires neg-requires returns returns-2)
+abs-spec = tie.close (tie.spec
+    (λ c κs. search needs) (λ c κs. search needs)
+    returns
+    returns-2)

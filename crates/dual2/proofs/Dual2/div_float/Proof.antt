@@ -8,4 +8,5 @@ unfolding dual2DivFloat
 returns c = refl
 
 pub div-float-spec : {M : Type 1} → statement M
-div-float-spec = tie.close (tie.spec returns)
+div-float-spec = tie.close (tie.spec
+    returns)

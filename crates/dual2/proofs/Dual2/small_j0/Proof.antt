@@ -2,17 +2,6 @@ use borrow.Author.Needs.{needs}
 use Rattle.dual2.proofs.Dual2.small_j0.Statement.{statement}
 use Rattle.dual2.proofs.Dual2.small_j0.Tie as tie
 
-mul-requires : tie.Need-mul-requires
-mul-requires c κs = search needs
-
-div-float-requires : tie.Need-div-float-requires
-div-float-requires c κs = search needs
-
-sub-requires : tie.Need-sub-requires
-sub-requires c κs = search needs
-
-returns : tie.Need-returns
-returns c = cc
-
 pub small-j0-spec : {M : Type 1} → statement M
-small-j0-spec = tie.close (tie.spec mul-requires div-float-requires sub-requires returns)
+small-j0-spec = tie.close (tie.spec
+    (λ c κs. search needs) (λ c κs. search needs) (λ c κs. search needs) (λ c. cc))

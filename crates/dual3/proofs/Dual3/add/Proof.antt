@@ -8,4 +8,5 @@ unfolding dual3Add
 returns c = refl
 
 pub add-spec : {M : Type 1} → statement M
-add-spec = tie.close (tie.spec returns)
+add-spec = tie.close (tie.spec
+    returns)

@@ -3,18 +3,11 @@ use Rattle.dual3.specs.Rules.{dual3Div}
 use Rattle.dual3.proofs.Dual3.div.Statement.{statement}
 use Rattle.dual3.proofs.Dual3.div.Tie as tie
 
-recip-requires : tie.Need-recip-requires
-recip-requires c κs = search needs
-
-chain-rule-requires : tie.Need-chain-rule-requires
-chain-rule-requires c κs = search needs
-
-mul-requires : tie.Need-mul-requires
-mul-requires c κs = search needs
-
 returns : tie.Need-returns
 unfolding dual3Div
 returns c = cc
 
 pub div-spec : {M : Type 1} → statement M
-div-spec = tie.close (tie.spec recip-requires chain-rule-requires mul-requires returns)
+div-spec = tie.close (tie.spec
+    (λ c κs. search needs) (λ c κs. search needs) (λ c κs. search needs)
+    returns)

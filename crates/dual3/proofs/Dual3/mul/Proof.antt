@@ -8,4 +8,5 @@ unfolding dual3Mul
 returns c = refl
 
 pub mul-spec : {M : Type 1} → statement M
-mul-spec = tie.close (tie.spec returns)
+mul-spec = tie.close (tie.spec
+    returns)

@@ -8,4 +8,5 @@ unfolding dual3MulFloat
 returns c = refl
 
 pub mul-float-spec : {M : Type 1} → statement M
-mul-float-spec = tie.close (tie.spec returns)
+mul-float-spec = tie.close (tie.spec
+    returns)

@@ -8,4 +8,5 @@ unfolding dual3Neg
 returns c = refl
 
 pub neg-spec : {M : Type 1} → statement M
-neg-spec = tie.close (tie.spec returns)
+neg-spec = tie.close (tie.spec
+    returns)

@@ -2,14 +2,6 @@ use borrow.Author.Needs.{needs}
 use Rattle.dual3.proofs.Dual3.sqrt.Statement.{statement}
 use Rattle.dual3.proofs.Dual3.sqrt.Tie as tie
 
-sqrt-requires : tie.Need-sqrt-requires
-sqrt-requires c κs = search needs
-
-chain-requires : tie.Need-chain-requires
-chain-requires c κs = search needs
-
-returns : tie.Need-returns
-returns c = cc
-
 pub sqrt-spec : {M : Type 1} → statement M
-sqrt-spec = tie.close (tie.spec sqrt-requires chain-requires returns)
+sqrt-spec = tie.close (tie.spec
+    (λ c κs. search needs) (λ c κs. search needs) (λ c. cc))

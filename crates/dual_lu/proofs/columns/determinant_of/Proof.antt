@@ -23,8 +23,7 @@ determinant-of-spec =
     tie.close
     (tie.spec Inv-loop μ-loop
     (λ c. walking dual-laws _ _ _)
-    (λ c. search needs)
-    (λ c. search needs)
+    (λ c. search needs) (λ c. search needs)
     (λ c. search (needs, walk-stop dual-laws))
     (λ c κs. search (needs, walk-bit dual-laws))
     (λ c. let t = row (c .before .before .before) in search needs)

@@ -8,8 +8,8 @@ pub reduce-row-spec : {M : Type 1} → statement M
 reduce-row-spec =
     tie.close
     (tie.spec
-    (λ c. search needs) (λ c. search needs) (λ c κs. search needs) (λ c. search needs)
-    (λ c. search needs) (λ c κs. search needs) (λ c κs. search needs) (λ c κs. search needs)
+    (λ c. search needs) (λ c. search needs) (λ c κs. search needs) (λ c. search needs) (λ c. search needs)
+    (λ c κs. search needs) (λ c κs. search needs) (λ c κs. search needs)
     (λ c κs. (search needs, (search needs, search (needs, multiplier-stored dual-laws))))
     (λ c. search needs)
     (λ c. search (needs, reduced dual-laws)))

@@ -24,8 +24,7 @@ run-back-spec =
     tie.close
     (tie.spec Inv-loop μ-loop
     (λ c. backing dual-laws _ _ _ _ _)
-    (λ c. omega arith)
-    (λ c. omega arith)
+    (λ c. omega arith) (λ c. omega arith)
     back-row-requires
     (λ c. search needs) (λ c. search needs)
     (λ c. search (needs, run-turn dual-laws))

@@ -5,21 +5,6 @@ use borrow.Author.Needs.{needs}
 use Rattle.dualrun_text.proofs.Request.line_refusal.Statement.{statement}
 use Rattle.dualrun_text.proofs.Request.line_refusal.Tie as tie
 
-enum-known-self : tie.Need-enum-known-self
-enum-known-self c = search needs
-
-line-refusal-requires : tie.Need-line-refusal-requires
-line-refusal-requires c κs = search needs
-
-enum-known-self-2 : tie.Need-enum-known-self-2
-enum-known-self-2 c = search needs
-
-line-refusal-requires-2 : tie.Need-line-refusal-requires-2
-line-refusal-requires-2 c κs = search needs
-
-enum-told : tie.Need-enum-told
-enum-told c = search needs
-
 returns : tie.Need-returns
 returns c = c .line-refusal .ensures ∙ ap lineRefusal (sym (c .before .before .self .given .1))
 
@@ -33,11 +18,7 @@ pub line-refusal-spec : {M : Type 1} → statement M
 line-refusal-spec =
     tie.close
     (tie.spec
-    enum-known-self
-    line-refusal-requires
-    enum-known-self-2
-    line-refusal-requires-2
-    enum-told
+    (λ c. search needs) (λ c κs. search needs) (λ c. search needs) (λ c κs. search needs) (λ c. search needs)
     returns
     returns-2
     returns-3)

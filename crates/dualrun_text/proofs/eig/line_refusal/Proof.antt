@@ -16,4 +16,8 @@ returns-4 : tie.Need-returns-4
 returns-4 c = rw (le-ltb 32 _ (c .before .before .if1 .left), ne-eqb _ 0 (c .before .if2 .left), le-ltb 1000 _ (c .if3 .left))
 
 pub line-refusal-spec : {M : Type 1} → statement M
-line-refusal-spec = tie.close (tie.spec returns returns-2 returns-3 returns-4)
+line-refusal-spec = tie.close (tie.spec
+    returns
+    returns-2
+    returns-3
+    returns-4)

@@ -11,24 +11,6 @@ use borrow.Author.Needs.{needs}
 use Rattle.dualrun_text.proofs.eig.lines.Statement.{statement}
 use Rattle.dualrun_text.proofs.eig.lines.Tie as tie
 
-enum-known-answer : tie.Need-enum-known-answer
-enum-known-answer c = search needs
-
-enum-told : tie.Need-enum-told
-enum-told c = search needs
-
-number-requires : tie.Need-number-requires
-number-requires c κs = search needs
-
-cast-pair : tie.Need-cast-pair
-cast-pair c = search needs
-
-pair-requires : tie.Need-pair-requires
-pair-requires c κs = search needs
-
-same-length : tie.Need-same-length
-same-length c = search needs
-
 returns : tie.Need-returns
 returns c =
     let s = c .before .before .before .before .before .before .before .before .before .before .args in
@@ -36,9 +18,6 @@ returns c =
     ∙ ap (written (page (now (s .out)) 0))
     (ap (λ (k : ℕ). pairLine k 0) (c .before .before .before .number .ensures)
     ∙ eig-refused (s .n) (now (s .values)) (now (s .vectors)) (s .answer) _ (c .before .before .before .before .before .enum-told .given .1))
-
-pair-requires-2 : tie.Need-pair-requires-2
-pair-requires-2 c κs = search needs
 
 records-requires : tie.Need-records-requires
 records-requires c κs = let h = c .before .before .before .before .before .before .before .before .before .before .before .pre .1 in omega arith
@@ -48,9 +27,6 @@ mul-records c = let h = square (c .before .before .before .before .before .befor
 
 records-requires-2 : tie.Need-records-requires-2
 records-requires-2 c κs = let h = c .before .before .before .before .before .before .before .before .before .before .before .before .before .before .before .pre .2 in omega arith
-
-same-length-2 : tie.Need-same-length-2
-same-length-2 c = search needs
 
 returns-2 : tie.Need-returns-2
 returns-2 c =
@@ -64,16 +40,12 @@ pub lines-spec : {M : Type 1} → statement M
 lines-spec =
     tie.close
     (tie.spec
-    enum-known-answer
-    enum-told
-    number-requires
-    cast-pair
-    pair-requires
-    same-length
+    (λ c. search needs) (λ c. search needs) (λ c κs. search needs) (λ c. search needs) (λ c κs. search needs)
+    (λ c. search needs)
     returns
-    pair-requires-2
+    (λ c κs. search needs)
     records-requires
     mul-records
     records-requires-2
-    same-length-2
+    (λ c. search needs)
     returns-2)

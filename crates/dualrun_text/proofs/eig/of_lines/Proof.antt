@@ -14,18 +14,6 @@ use Rattle.dualrun_text.proofs.eig.of_lines.Tie as tie
 body-requires : tie.Need-body-requires
 body-requires c κs = let s = c .before .before .before .before .before .before in let h = square (s .args .n) (s .pre .1) in let l = s .pre .2 in (search needs, omega arith)
 
-slice-aggregate-bytes : tie.Need-slice-aggregate-bytes
-slice-aggregate-bytes c = search needs
-
-bytes-requires : tie.Need-bytes-requires
-bytes-requires c κs = search needs
-
-same-length : tie.Need-same-length
-same-length c = search needs
-
-same-length-2 : tie.Need-same-length-2
-same-length-2 c = search needs
-
 returns : tie.Need-returns
 returns c =
     let b = c .before .before .before .before .before .before .before .before .body in
@@ -33,24 +21,6 @@ returns c =
     let size = c .before .before .before .before .before .before .before .before .before .before .before .before .before .before .before .pre .2 in
     c .before .before .bytes .ensures
     ∙ ap (written (page (now (s .out)) 0)) (eig-unread (now (s .text)) (s .n) (s .start) (s .limit) (now (s .values)) (now (s .vectors)) (ap (isBody (now (s .text)) (s .start)) (sym size) ∙ sym (b .ensures .0) ∙ not-true _ (c .before .before .before .before .before .if1 .taken)))
-
-jacobi-eigenvalue-requires : tie.Need-jacobi-eigenvalue-requires
-jacobi-eigenvalue-requires c κs = search needs
-
-lines-requires : tie.Need-lines-requires
-lines-requires c κs = search needs
-
-same-length-3 : tie.Need-same-length-3
-same-length-3 c = search needs
-
-same-length-4 : tie.Need-same-length-4
-same-length-4 c = search needs
-
-same-length-5 : tie.Need-same-length-5
-same-length-5 c = search needs
-
-same-length-6 : tie.Need-same-length-6
-same-length-6 c = search needs
 
 returns-2 : tie.Need-returns-2
 returns-2 c =
@@ -66,15 +36,8 @@ of-lines-spec =
     tie.close
     (tie.spec
     body-requires
-    slice-aggregate-bytes
-    bytes-requires
-    same-length
-    same-length-2
+    (λ c. search needs) (λ c κs. search needs) (λ c. search needs) (λ c. search needs)
     returns
-    jacobi-eigenvalue-requires
-    lines-requires
-    same-length-3
-    same-length-4
-    same-length-5
-    same-length-6
+    (λ c κs. search needs) (λ c κs. search needs) (λ c. search needs) (λ c. search needs) (λ c. search needs)
+    (λ c. search needs)
     returns-2)

@@ -12,18 +12,6 @@ use borrow.Author.Needs.{needs}
 use Rattle.dualrun_text.proofs.lu.command.Statement.{statement}
 use Rattle.dualrun_text.proofs.lu.command.Tie as tie
 
-line-refusal-requires : tie.Need-line-refusal-requires
-line-refusal-requires c κs = search needs
-
-cast-pair : tie.Need-cast-pair
-cast-pair c = search needs
-
-pair-requires : tie.Need-pair-requires
-pair-requires c κs = search needs
-
-same-length : tie.Need-same-length
-same-length c = search needs
-
 returns : tie.Need-returns
 returns c =
     let s = c .before .before .before .before .before .before .before .before .args in
@@ -56,9 +44,6 @@ slice-aggregate-of-lines-3 c = let h = lu-fits (c .before .before .before .befor
 of-lines-requires : tie.Need-of-lines-requires
 of-lines-requires c κs = let h = lu-fits (c .before .before .before .before .before .before .before .before .args .n) _ (c .before .before .before .before .before .line-refusal .ensures) (c .before .before .before .before .if1 .left) in (search needs, search needs, length-take-le _ _ (search needs), length-take-le _ _ (search needs), length-take-le _ _ (search needs))
 
-same-length-2 : tie.Need-same-length-2
-same-length-2 c = search needs
-
 returns-2 : tie.Need-returns-2
 returns-2 c =
     let s = c .before .before .before .before .before .before .before .before .before .before .before .before .before .before .args in
@@ -73,10 +58,7 @@ pub command-spec : {M : Type 1} → statement M
 command-spec =
     tie.close
     (tie.spec
-    line-refusal-requires
-    cast-pair
-    pair-requires
-    same-length
+    (λ c κs. search needs) (λ c. search needs) (λ c κs. search needs) (λ c. search needs)
     returns
     mul-full
     mul-full-2
@@ -87,5 +69,5 @@ command-spec =
     array-borrow-prefix-order
     slice-aggregate-of-lines-3
     of-lines-requires
-    same-length-2
+    (λ c. search needs)
     returns-2)

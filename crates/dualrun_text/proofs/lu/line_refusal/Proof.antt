@@ -10,4 +10,6 @@ returns-2 : tie.Need-returns-2
 returns-2 c = rw (le-ltb 32 _ (c .if1 .left))
 
 pub line-refusal-spec : {M : Type 1} → statement M
-line-refusal-spec = tie.close (tie.spec returns returns-2)
+line-refusal-spec = tie.close (tie.spec
+    returns
+    returns-2)

@@ -12,27 +12,6 @@ use borrow.Author.Needs.{needs}
 use Rattle.dualrun_text.proofs.lu.lines.Statement.{statement}
 use Rattle.dualrun_text.proofs.lu.lines.Tie as tie
 
-enum-known-answer : tie.Need-enum-known-answer
-enum-known-answer c = search needs
-
-enum-told : tie.Need-enum-told
-enum-told c = search needs
-
-number-requires : tie.Need-number-requires
-number-requires c κs = search needs
-
-cast-number : tie.Need-cast-number
-cast-number c = search needs
-
-column-requires : tie.Need-column-requires
-column-requires c κs = search needs
-
-pair-requires : tie.Need-pair-requires
-pair-requires c κs = search needs
-
-same-length : tie.Need-same-length
-same-length c = search needs
-
 returns : tie.Need-returns
 returns c =
     let s = c .before .before .before .before .before .before .before .before .before .before .before .args in
@@ -41,20 +20,11 @@ returns c =
     ((λ i. pairLine (c .before .before .before .before .before .number .ensures i) (c .before .before .before .before .column .ensures i))
     ∙ lu-refused (s .n) (now (s .factors)) (now (s .order)) (s .answer) _ _ (c .before .before .before .before .before .before .enum-told .given .1))
 
-pair-requires-2 : tie.Need-pair-requires-2
-pair-requires-2 c κs = search needs
-
-order-requires : tie.Need-order-requires
-order-requires c κs = search needs
-
 mul-records : tie.Need-mul-records
 mul-records c = let h = square (c .before .before .before .before .before .before .before .before .before .before .before .before .before .before .before .args .n) (c .before .before .before .before .before .before .before .before .before .before .before .before .before .before .before .pre .0) in search needs
 
 records-requires : tie.Need-records-requires
 records-requires c κs = let h = c .before .before .before .before .before .before .before .before .before .before .before .before .before .before .before .pre .1 in omega arith
-
-same-length-2 : tie.Need-same-length-2
-same-length-2 c = search needs
 
 returns-2 : tie.Need-returns-2
 returns-2 c =
@@ -69,17 +39,11 @@ pub lines-spec : {M : Type 1} → statement M
 lines-spec =
     tie.close
     (tie.spec
-    enum-known-answer
-    enum-told
-    number-requires
-    cast-number
-    column-requires
-    pair-requires
-    same-length
+    (λ c. search needs) (λ c. search needs) (λ c κs. search needs) (λ c. search needs) (λ c κs. search needs)
+    (λ c κs. search needs) (λ c. search needs)
     returns
-    pair-requires-2
-    order-requires
+    (λ c κs. search needs) (λ c κs. search needs)
     mul-records
     records-requires
-    same-length-2
+    (λ c. search needs)
     returns-2)

@@ -24,12 +24,6 @@ Inv-loop text start matrix₀ i₀ matrix i =
 abbrev μ-loop : tie.MeasureT-loop
 μ-loop text start matrix₀ i₀ matrix i = length matrix₀ - i
 
-mul-if1 : tie.Need-mul-if1 Inv-loop μ-loop
-mul-if1 c = search needs
-
-add-if1 : tie.Need-add-if1 Inv-loop μ-loop
-add-if1 c = search needs
-
 returns : tie.Need-returns Inv-loop μ-loop
 returns c =
     let s = c .before .before .before .args in
@@ -37,15 +31,6 @@ returns c =
 
 loop-holds : tie.Need-loop-holds Inv-loop μ-loop
 loop-holds c = (omega arith, refl, λ j h. absurd (omega arith), λ j h. absurd (omega arith))
-
-word-requires : tie.Need-word-requires Inv-loop μ-loop
-word-requires c κs = search needs
-
-enum-known-w : tie.Need-enum-known-w Inv-loop μ-loop
-enum-known-w c = search needs
-
-enum-told : tie.Need-enum-told Inv-loop μ-loop
-enum-told c = search needs
 
 same-length : tie.Need-same-length Inv-loop μ-loop
 same-length c = let h = c .before .before .before .before .loop .inv .1 in search needs
@@ -56,21 +41,6 @@ returns-2 c =
     let s = at .before .before .before .before .args in
     let t = now (s .text) in
     (sym (body-other-word t (s .start) (length (now (s .matrix))) (at .loop .i) (omega arith) (not-word t (s .start) (at .loop .i) _ (c .before .before .word .ensures) (c .enum-told .given .1))), λ e. absurd (true≢false (sym e)))
-
-float-of-word-requires : tie.Need-float-of-word-requires Inv-loop μ-loop
-float-of-word-requires c κs = search needs
-
-mul-matrix : tie.Need-mul-matrix Inv-loop μ-loop
-mul-matrix c = search needs
-
-slice-write-matrix : tie.Need-slice-write-matrix Inv-loop μ-loop
-slice-write-matrix c = search needs
-
-add-i : tie.Need-add-i Inv-loop μ-loop
-add-i c = search needs
-
-loop-less : tie.Need-loop-less Inv-loop μ-loop
-loop-less c = search needs
 
 loop-again : tie.Need-loop-again Inv-loop μ-loop
 loop-again c =
@@ -107,23 +77,14 @@ returns-3 c =
 pub body-spec : {M : Type 1} → statement M
 body-spec =
     tie.close
-    (tie.spec
-    Inv-loop
-    μ-loop
-    mul-if1
-    add-if1
+    (tie.spec Inv-loop μ-loop
+    (λ c. search needs) (λ c. search needs)
     returns
     loop-holds
-    word-requires
-    enum-known-w
-    enum-told
+    (λ c κs. search needs) (λ c. search needs) (λ c. search needs)
     same-length
     returns-2
-    float-of-word-requires
-    mul-matrix
-    slice-write-matrix
-    add-i
-    loop-less
+    (λ c κs. search needs) (λ c. search needs) (λ c. search needs) (λ c. search needs) (λ c. search needs)
     loop-again
     same-length-2
     returns-3)

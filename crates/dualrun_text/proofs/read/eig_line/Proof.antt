@@ -8,23 +8,11 @@ use borrow.Author.Needs.{needs}
 use Rattle.dualrun_text.proofs.read.eig_line.Statement.{statement}
 use Rattle.dualrun_text.proofs.read.eig_line.Tie as tie
 
-number-requires : tie.Need-number-requires
-number-requires c κs = search needs
-
-enum-known-value : tie.Need-enum-known-value
-enum-known-value c = search needs
-
-enum-told : tie.Need-enum-told
-enum-told c = search needs
-
 returns : tie.Need-returns
 returns c =
     let s = c .before .before in
     let args = s .before .before .args in
     then-not (now (args .text)) 4 32 (limitLine (now (args .text))) (s .number .result) (s .number .ensures) (c .enum-told .given .1)
-
-byte-at-requires : tie.Need-byte-at-requires
-byte-at-requires c κs = search needs
 
 returns-2 : tie.Need-returns-2
 returns-2 c =
@@ -48,11 +36,9 @@ pub eig-line-spec : {M : Type 1} → statement M
 eig-line-spec =
     tie.close
     (tie.spec
-    number-requires
-    enum-known-value
-    enum-told
+    (λ c κs. search needs) (λ c. search needs) (λ c. search needs)
     returns
-    byte-at-requires
+    (λ c κs. search needs)
     returns-2
     add-limit-line
     limit-line-requires

@@ -8,23 +8,11 @@ use borrow.Author.Needs.{needs}
 use Rattle.dualrun_text.proofs.read.lu_line.Statement.{statement}
 use Rattle.dualrun_text.proofs.read.lu_line.Tie as tie
 
-number-requires : tie.Need-number-requires
-number-requires c κs = search needs
-
-enum-known-value : tie.Need-enum-known-value
-enum-known-value c = search needs
-
-enum-told : tie.Need-enum-told
-enum-told c = search needs
-
 returns : tie.Need-returns
 returns c =
     let s = c .before .before in
     let args = s .before .before .args in
     then-not (now (args .text)) 3 10 Lu (s .number .result) (s .number .ensures) (c .enum-told .given .1)
-
-byte-at-requires : tie.Need-byte-at-requires
-byte-at-requires c κs = search needs
 
 returns-2 : tie.Need-returns-2
 returns-2 c =
@@ -45,11 +33,9 @@ pub lu-line-spec : {M : Type 1} → statement M
 lu-line-spec =
     tie.close
     (tie.spec
-    number-requires
-    enum-known-value
-    enum-told
+    (λ c κs. search needs) (λ c. search needs) (λ c. search needs)
     returns
-    byte-at-requires
+    (λ c κs. search needs)
     returns-2
     add-t7
     returns-3)

@@ -5,9 +5,6 @@ use borrow.Author.Needs.{needs}
 use Rattle.dualrun_text.proofs.read.number.Statement.{statement}
 use Rattle.dualrun_text.proofs.read.number.Tie as tie
 
-scan-requires : tie.Need-scan-requires
-scan-requires c κs = search needs
-
 returns : tie.Need-returns
 returns c =
     let s = c .before in
@@ -18,13 +15,15 @@ returns-2 c =
     let s = c .before .before in
     number-long (now (s .before .before .args .text)) (s .before .before .args .p) (s .scan .result) (s .scan .ensures) (c .if2 .taken)
 
-add-t7 : tie.Need-add-t7
-add-t7 c = search needs
-
 returns-3 : tie.Need-returns-3
 returns-3 c =
     let s = c .before .before in
     number-is (now (s .before .before .args .text)) (s .before .before .args .p) (s .scan .result) (s .scan .ensures) (c .before .if1 .left) (c .if2 .left)
 
 pub number-spec : {M : Type 1} → statement M
-number-spec = tie.close (tie.spec scan-requires returns returns-2 add-t7 returns-3)
+number-spec = tie.close (tie.spec
+    (λ c κs. search needs)
+    returns
+    returns-2
+    (λ c. search needs)
+    returns-3)

@@ -20,12 +20,6 @@ loop-holds c = scanned-none _ _ _ _
 add-byte-at : tie.Need-add-byte-at Inv-loop μ-loop
 add-byte-at c = let w = c .before .loop .inv .within in search needs
 
-byte-at-requires : tie.Need-byte-at-requires Inv-loop μ-loop
-byte-at-requires c κs = search needs
-
-digit-value-requires : tie.Need-digit-value-requires Inv-loop μ-loop
-digit-value-requires c κs = search needs
-
 returns : tie.Need-returns Inv-loop μ-loop
 returns c =
     let at = c .before .before .before .before in
@@ -48,12 +42,6 @@ add-value c = record {
       digit-fits (s .base) (now (s .text)) (s .most) (s .p) (at .loop .value) (at .loop .k) _ (c .before .before .before .loop-test .taken) (c .before .digit-value .ensures ∙ ap digitValue (c .before .before .byte-at .ensures)) (at .loop .inv) (at .before .before .pre .1) (at .before .before .pre .2) (c .if1 .left) .1;
 }
 
-add-k : tie.Need-add-k Inv-loop μ-loop
-add-k c = search needs
-
-loop-less : tie.Need-loop-less Inv-loop μ-loop
-loop-less c = search needs
-
 loop-again : tie.Need-loop-again Inv-loop μ-loop
 loop-again c =
     let at = c .before .before .before .before in
@@ -69,17 +57,13 @@ returns-2 c =
 pub scan-spec : {M : Type 1} → statement M
 scan-spec =
     tie.close
-    (tie.spec
-    Inv-loop
-    μ-loop
+    (tie.spec Inv-loop μ-loop
     loop-holds
     add-byte-at
-    byte-at-requires
-    digit-value-requires
+    (λ c κs. search needs) (λ c κs. search needs)
     returns
     mul-value
     add-value
-    add-k
-    loop-less
+    (λ c. search needs) (λ c. search needs)
     loop-again
     returns-2)

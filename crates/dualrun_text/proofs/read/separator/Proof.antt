@@ -10,4 +10,6 @@ returns-2 : tie.Need-returns-2
 returns-2 c = simp (ne-eqb _ _ (c .if1 .left))
 
 pub separator-spec : {M : Type 1} → statement M
-separator-spec = tie.close (tie.spec returns returns-2)
+separator-spec = tie.close (tie.spec
+    returns
+    returns-2)

@@ -23,24 +23,12 @@ abbrev μ-loop : tie.MeasureT-loop
 loop-holds : tie.Need-loop-holds Inv-loop μ-loop
 loop-holds c = (omega arith, λ j h. absurd (omega arith))
 
-byte-at-requires : tie.Need-byte-at-requires Inv-loop μ-loop
-byte-at-requires c κs = search needs
-
-shared-slice-read-if1 : tie.Need-shared-slice-read-if1 Inv-loop μ-loop
-shared-slice-read-if1 c = search needs
-
 returns : tie.Need-returns Inv-loop μ-loop
 unfolding startsWith
 returns c =
     let at = c .before .before .before .before in
     let s = at .before .before .before .args in
     sym (every-false (λ j. eqb (byteAt (now (s .text)) j) (byteAt (now (s .word)) j)) (length (now (s .word))) (at .loop .i) (c .before .before .before .loop-test .taken) (ap (λ (x : ℕ). eqb x (byteAt (now (s .word)) (at .loop .i))) (sym (c .before .before .byte-at .ensures)) ∙ ne-eqb _ _ (c .if1 .taken)))
-
-add-i : tie.Need-add-i Inv-loop μ-loop
-add-i c = search needs
-
-loop-less : tie.Need-loop-less Inv-loop μ-loop
-loop-less c = search needs
 
 loop-again : tie.Need-loop-again Inv-loop μ-loop
 loop-again c =
@@ -58,14 +46,10 @@ returns-2 c =
 pub starts-with-spec : {M : Type 1} → statement M
 starts-with-spec =
     tie.close
-    (tie.spec
-    Inv-loop
-    μ-loop
+    (tie.spec Inv-loop μ-loop
     loop-holds
-    byte-at-requires
-    shared-slice-read-if1
+    (λ c κs. search needs) (λ c. search needs)
     returns
-    add-i
-    loop-less
+    (λ c. search needs) (λ c. search needs)
     loop-again
     returns-2)

@@ -7,30 +7,12 @@ use borrow.Author.Needs.{needs}
 use Rattle.dualrun_text.proofs.read.word.Statement.{statement}
 use Rattle.dualrun_text.proofs.read.word.Tie as tie
 
-mul-p : tie.Need-mul-p
-mul-p c = search needs
-
-add-p : tie.Need-add-p
-add-p c = search needs
-
-scan-requires : tie.Need-scan-requires
-scan-requires c κs = search needs
-
 returns : tie.Need-returns
 returns c =
     let s = c .before in
     let args = s .before .before .args in
     let text = now (args .text) in
     word-not text (args .start) (args .i) (few-digits text (args .start) (args .i) (s .scan .result) (s .scan .ensures) (c .if1 .taken))
-
-add-byte-at : tie.Need-add-byte-at
-add-byte-at c = search needs
-
-byte-at-requires : tie.Need-byte-at-requires
-byte-at-requires c κs = search needs
-
-separator-requires : tie.Need-separator-requires
-separator-requires c κs = search needs
 
 returns-2 : tie.Need-returns-2
 returns-2 c =
@@ -50,12 +32,8 @@ pub word-spec : {M : Type 1} → statement M
 word-spec =
     tie.close
     (tie.spec
-    mul-p
-    add-p
-    scan-requires
+    (λ c. search needs) (λ c. search needs) (λ c κs. search needs)
     returns
-    add-byte-at
-    byte-at-requires
-    separator-requires
+    (λ c. search needs) (λ c κs. search needs) (λ c κs. search needs)
     returns-2
     returns-3)

@@ -5,15 +5,6 @@ use borrow.Author.Needs.{needs}
 use Rattle.dualrun_text.proofs.write.byte.Statement.{statement}
 use Rattle.dualrun_text.proofs.write.byte.Tie as tie
 
-slice-write-out : tie.Need-slice-write-out
-slice-write-out c = search needs
-
-add-result : tie.Need-add-result
-add-result c = search needs
-
-same-length : tie.Need-same-length
-same-length c = search needs
-
 returns : tie.Need-returns
 unfolding written
 returns c = simp (lt-ltb _ _ (c .if1 .taken))
@@ -23,4 +14,7 @@ unfolding written
 returns-2 c = simp (le-ltb _ _ (c .if1 .left))
 
 pub byte-spec : {M : Type 1} → statement M
-byte-spec = tie.close (tie.spec slice-write-out add-result same-length returns returns-2)
+byte-spec = tie.close (tie.spec
+    (λ c. search needs) (λ c. search needs) (λ c. search needs)
+    returns
+    returns-2)

@@ -10,23 +10,8 @@ use borrow.Author.Needs.{needs}
 use Rattle.dualrun_text.proofs.write.entry.Statement.{statement}
 use Rattle.dualrun_text.proofs.write.entry.Tie as tie
 
-number-requires : tie.Need-number-requires
-number-requires c κs = search needs
-
-same-length : tie.Need-same-length
-same-length c = search needs
-
 returns : tie.Need-returns
 returns c = rw (eq-eqb _ _ (c .before .before .before .before .if1 .taken)) (c .before .before .number .ensures)
-
-byte-requires : tie.Need-byte-requires
-byte-requires c κs = search needs
-
-number-requires-2 : tie.Need-number-requires-2
-number-requires-2 c κs = search needs
-
-same-length-2 : tie.Need-same-length-2
-same-length-2 c = search needs
 
 returns-2 : tie.Need-returns-2
 returns-2 c = rw (ne-eqb _ _ (c .before .before .before .before .before .before .before .before .if1 .left)) (then (page (now (c .before .before .before .before .before .before .before .before .before .before .args .out)) (c .before .before .before .before .before .before .before .before .before .before .args .at)) (32 ∷ []) (decimalText (c .before .before .before .before .before .before .before .before .before .before .args .x)) (c .before .before .before .before .before .before .byte .ensures) (c .before .before .number2 .ensures))
@@ -35,10 +20,7 @@ pub entry-spec : {M : Type 1} → statement M
 entry-spec =
     tie.close
     (tie.spec
-    number-requires
-    same-length
+    (λ c κs. search needs) (λ c. search needs)
     returns
-    byte-requires
-    number-requires-2
-    same-length-2
+    (λ c κs. search needs) (λ c κs. search needs) (λ c. search needs)
     returns-2)

@@ -9,15 +9,6 @@ use Rattle.dualrun_text.proofs.Page.{then}
 use Rattle.dualrun_text.proofs.write.order.Statement.{statement}
 use Rattle.dualrun_text.proofs.write.order.Tie as tie
 
-entries-requires : tie.Need-entries-requires
-entries-requires c κs = search needs
-
-byte-requires : tie.Need-byte-requires
-byte-requires c κs = search needs
-
-same-length : tie.Need-same-length
-same-length c = search needs
-
 returns : tie.Need-returns
 unfolding orderLine
 returns c =
@@ -26,4 +17,6 @@ returns c =
     then (page (now (s .out)) (s .at)) (entries l (length l)) (10 ∷ []) (c .before .before .before .before .before .before .entries .ensures) (c .before .before .byte .ensures)
 
 pub order-spec : {M : Type 1} → statement M
-order-spec = tie.close (tie.spec entries-requires byte-requires same-length returns)
+order-spec = tie.close (tie.spec
+    (λ c κs. search needs) (λ c κs. search needs) (λ c. search needs)
+    returns)

@@ -9,21 +9,6 @@ use borrow.Author.Needs.{needs}
 use Rattle.dualrun_text.proofs.write.pair.Statement.{statement}
 use Rattle.dualrun_text.proofs.write.pair.Tie as tie
 
-number-requires : tie.Need-number-requires
-number-requires c κs = search needs
-
-byte-requires : tie.Need-byte-requires
-byte-requires c κs = search needs
-
-number-requires-2 : tie.Need-number-requires-2
-number-requires-2 c κs = search needs
-
-byte-requires-2 : tie.Need-byte-requires-2
-byte-requires-2 c κs = search needs
-
-same-length : tie.Need-same-length
-same-length c = search needs
-
 returns : tie.Need-returns
 unfolding pairLine
 returns c =
@@ -33,4 +18,6 @@ returns c =
 pub pair-spec : {M : Type 1} → statement M
 pair-spec =
     tie.close
-    (tie.spec number-requires byte-requires number-requires-2 byte-requires-2 same-length returns)
+    (tie.spec
+    (λ c κs. search needs) (λ c κs. search needs) (λ c κs. search needs) (λ c κs. search needs) (λ c. search needs)
+    returns)

@@ -9,21 +9,6 @@ use borrow.Author.Needs.{needs}
 use Rattle.dualrun_text.proofs.write.record.Statement.{statement}
 use Rattle.dualrun_text.proofs.write.record.Tie as tie
 
-word-requires : tie.Need-word-requires
-word-requires c κs = search needs
-
-byte-requires : tie.Need-byte-requires
-byte-requires c κs = search needs
-
-word-requires-2 : tie.Need-word-requires-2
-word-requires-2 c κs = search needs
-
-byte-requires-2 : tie.Need-byte-requires-2
-byte-requires-2 c κs = search needs
-
-same-length : tie.Need-same-length
-same-length c = search needs
-
 returns : tie.Need-returns
 unfolding recordLine
 returns c =
@@ -33,4 +18,6 @@ returns c =
 pub record-spec : {M : Type 1} → statement M
 record-spec =
     tie.close
-    (tie.spec word-requires byte-requires word-requires-2 byte-requires-2 same-length returns)
+    (tie.spec
+    (λ c κs. search needs) (λ c κs. search needs) (λ c κs. search needs) (λ c κs. search needs) (λ c. search needs)
+    returns)

@@ -25,36 +25,6 @@ loop-holds : tie.Need-loop-holds Inv-loop μ-loop
 unfolding recordLines written
 loop-holds c = (omega arith, refl)
 
-mul-record : tie.Need-mul-record Inv-loop μ-loop
-mul-record c = search needs
-
-mul-record-2 : tie.Need-mul-record-2 Inv-loop μ-loop
-mul-record-2 c = search needs
-
-shared-slice-read-record : tie.Need-shared-slice-read-record Inv-loop μ-loop
-shared-slice-read-record c = search needs
-
-mul-record-3 : tie.Need-mul-record-3 Inv-loop μ-loop
-mul-record-3 c = search needs
-
-add-record : tie.Need-add-record Inv-loop μ-loop
-add-record c = search needs
-
-mul-record-4 : tie.Need-mul-record-4 Inv-loop μ-loop
-mul-record-4 c = search needs
-
-shared-slice-read-record-2 : tie.Need-shared-slice-read-record-2 Inv-loop μ-loop
-shared-slice-read-record-2 c = search needs
-
-record-requires : tie.Need-record-requires Inv-loop μ-loop
-record-requires c κs = search needs
-
-add-k : tie.Need-add-k Inv-loop μ-loop
-add-k c = search needs
-
-loop-less : tie.Need-loop-less Inv-loop μ-loop
-loop-less c = search needs
-
 loop-again : tie.Need-loop-again Inv-loop μ-loop
 loop-again c =
     let at = c .before .before .before .before .before .before .before in
@@ -76,20 +46,10 @@ returns c =
 pub records-spec : {M : Type 1} → statement M
 records-spec =
     tie.close
-    (tie.spec
-    Inv-loop
-    μ-loop
+    (tie.spec Inv-loop μ-loop
     loop-holds
-    mul-record
-    mul-record-2
-    shared-slice-read-record
-    mul-record-3
-    add-record
-    mul-record-4
-    shared-slice-read-record-2
-    record-requires
-    add-k
-    loop-less
+    (λ c. search needs) (λ c. search needs) (λ c. search needs) (λ c. search needs) (λ c. search needs)
+    (λ c. search needs) (λ c. search needs) (λ c κs. search needs) (λ c. search needs) (λ c. search needs)
     loop-again
     same-length
     returns)

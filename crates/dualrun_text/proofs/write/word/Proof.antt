@@ -10,24 +10,6 @@ use borrow.Author.Needs.{needs}
 use Rattle.dualrun_text.proofs.write.word.Statement.{statement}
 use Rattle.dualrun_text.proofs.write.word.Tie as tie
 
-word-of-float-requires : tie.Need-word-of-float-requires
-word-of-float-requires c κs = search needs
-
-hex-requires : tie.Need-hex-requires
-hex-requires c κs = search needs
-
-array-share-prefix-digits : tie.Need-array-share-prefix-digits
-array-share-prefix-digits c = search needs
-
-slice-aggregate-bytes : tie.Need-slice-aggregate-bytes
-slice-aggregate-bytes c = search needs
-
-bytes-requires : tie.Need-bytes-requires
-bytes-requires c κs = search needs
-
-same-length : tie.Need-same-length
-same-length c = search needs
-
 returns : tie.Need-returns
 unfolding wordText
 returns c =
@@ -41,10 +23,6 @@ pub word-spec : {M : Type 1} → statement M
 word-spec =
     tie.close
     (tie.spec
-    word-of-float-requires
-    hex-requires
-    array-share-prefix-digits
-    slice-aggregate-bytes
-    bytes-requires
-    same-length
+    (λ c κs. search needs) (λ c κs. search needs) (λ c. search needs) (λ c. search needs) (λ c κs. search needs)
+    (λ c. search needs)
     returns)

@@ -7,15 +7,6 @@ use borrow.Author.Needs.{needs}
 use Rattle.exports.proofs.linalg.evindrast_determinant.Statement.{statement}
 use Rattle.exports.proofs.linalg.evindrast_determinant.Tie as tie
 
-determinant-requires : tie.Need-determinant-requires
-determinant-requires c κs = search needs
-
-enum-known-answer : tie.Need-enum-known-answer
-enum-known-answer c = search needs
-
-enum-known-answer-2 : tie.Need-enum-known-answer-2
-enum-known-answer-2 c = search needs
-
 returns : tie.Need-returns
 returns c =
     let s = c .before .before .before .before .before .before .args in
@@ -31,4 +22,7 @@ returns-2 c =
 pub evindrast-determinant-spec : {M : Type 1} → statement M
 evindrast-determinant-spec =
     tie.close
-    (tie.spec determinant-requires enum-known-answer enum-known-answer-2 returns returns-2)
+    (tie.spec
+    (λ c κs. search needs) (λ c. search needs) (λ c. search needs)
+    returns
+    returns-2)

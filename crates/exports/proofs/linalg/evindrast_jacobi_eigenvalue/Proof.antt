@@ -10,35 +10,11 @@ use borrow.Author.Needs.{needs}
 use Rattle.exports.proofs.linalg.evindrast_jacobi_eigenvalue.Statement.{statement}
 use Rattle.exports.proofs.linalg.evindrast_jacobi_eigenvalue.Tie as tie
 
-jacobi-eigenvalue-requires : tie.Need-jacobi-eigenvalue-requires
-jacobi-eigenvalue-requires c κs = search needs
-
-enum-known-answer : tie.Need-enum-known-answer
-enum-known-answer c = search needs
-
-enum-told : tie.Need-enum-told
-enum-told c = search needs
-
-number-requires : tie.Need-number-requires
-number-requires c κs = search needs
-
-same-length : tie.Need-same-length
-same-length c = search needs
-
-same-length-2 : tie.Need-same-length-2
-same-length-2 c = search needs
-
 returns : tie.Need-returns
 returns c =
     let call = c .before .before .before .before .before .before .before .jacobi-eigenvalue in
     let s = c .before .before .before .before .before .before .before .before .before .before .before .before .before .args in
     jacobi-refused (now (s .sweeps)) _ _ (call .last .1 .1 .1 .0) (call .last .1 .1 .1 .1 .0) _ _ (c .before .enum-told .given .1) (c .number .ensures) (call .ensures)
-
-same-length-3 : tie.Need-same-length-3
-same-length-3 c = search needs
-
-same-length-4 : tie.Need-same-length-4
-same-length-4 c = search needs
 
 returns-2 : tie.Need-returns-2
 returns-2 c =
@@ -51,13 +27,8 @@ pub evindrast-jacobi-eigenvalue-spec : {M : Type 1} → statement M
 evindrast-jacobi-eigenvalue-spec =
     tie.close
     (tie.spec
-    jacobi-eigenvalue-requires
-    enum-known-answer
-    enum-told
-    number-requires
-    same-length
-    same-length-2
+    (λ c κs. search needs) (λ c. search needs) (λ c. search needs) (λ c κs. search needs) (λ c. search needs)
+    (λ c. search needs)
     returns
-    same-length-3
-    same-length-4
+    (λ c. search needs) (λ c. search needs)
     returns-2)

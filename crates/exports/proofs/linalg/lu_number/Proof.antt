@@ -5,35 +5,17 @@ use Rattle.exports.proofs.Crossed.{lu-singular, lu-refused}
 use Rattle.exports.proofs.linalg.lu_number.Statement.{statement}
 use Rattle.exports.proofs.linalg.lu_number.Tie as tie
 
-enum-known-answer : tie.Need-enum-known-answer
-enum-known-answer c = search needs
-
-enum-told : tie.Need-enum-told
-enum-told c = search needs
-
-number-requires : tie.Need-number-requires
-number-requires c κs = search needs
-
-column-requires : tie.Need-column-requires
-column-requires c κs = search needs
-
 returns : tie.Need-returns
 returns c = lu-singular (now (c .before .before .before .before .before .args .beside)) (c .before .before .before .before .before .args .answer) _ _ (c .before .before .before .enum-told .given .1) _ (c .before .before .number .ensures) _ (c .column .ensures) (c .before .if1 .taken)
 
 returns-2 : tie.Need-returns-2
 returns-2 c = lu-refused (now (c .before .before .before .before .args .beside)) (c .before .before .before .before .args .answer) _ _ (c .before .before .enum-told .given .1) _ (c .before .number .ensures) (c .if1 .left)
 
-returns-3 : tie.Need-returns-3
-returns-3 c = search needs
-
 pub lu-number-spec : {M : Type 1} → statement M
 lu-number-spec =
     tie.close
     (tie.spec
-    enum-known-answer
-    enum-told
-    number-requires
-    column-requires
+    (λ c. search needs) (λ c. search needs) (λ c κs. search needs) (λ c κs. search needs)
     returns
     returns-2
-    returns-3)
+    (λ c. search needs))

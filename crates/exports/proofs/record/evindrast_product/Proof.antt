@@ -7,51 +7,21 @@ use borrow.Author.Needs.{needs}
 use Rattle.exports.proofs.record.evindrast_product.Statement.{statement}
 use Rattle.exports.proofs.record.evindrast_product.Tie as tie
 
-product-requires : tie.Need-product-requires
-product-requires c κs = search needs
-
-product-requires-2 : tie.Need-product-requires-2
-product-requires-2 c κs = search needs
-
-product-requires-3 : tie.Need-product-requires-3
-product-requires-3 c κs = search needs
-
-product-requires-4 : tie.Need-product-requires-4
-product-requires-4 c κs = search needs
-
-product-requires-5 : tie.Need-product-requires-5
-product-requires-5 c κs = search needs
-
-same-length : tie.Need-same-length
-same-length c = search needs
-
 returns : tie.Need-returns
 unfolding productLeft
 returns c = rw (c .before .before .before .before .match .keys1) (c .before .before .product .ensures)
-
-same-length-2 : tie.Need-same-length-2
-same-length-2 c = search needs
 
 returns-2 : tie.Need-returns-2
 unfolding productLeft
 returns-2 c = rw (c .before .before .before .before .match .keys2) (c .before .before .product2 .ensures)
 
-same-length-3 : tie.Need-same-length-3
-same-length-3 c = search needs
-
 returns-3 : tie.Need-returns-3
 unfolding productLeft
 returns-3 c = rw (c .before .before .before .before .match .keys3) (c .before .before .product3 .ensures)
 
-same-length-4 : tie.Need-same-length-4
-same-length-4 c = search needs
-
 returns-4 : tie.Need-returns-4
 unfolding productLeft
 returns-4 c = rw (c .before .before .before .before .match .keys4) (c .before .before .product4 .ensures)
-
-same-length-5 : tie.Need-same-length-5
-same-length-5 c = search needs
 
 returns-5 : tie.Need-returns-5
 unfolding productLeft
@@ -67,19 +37,15 @@ pub evindrast-product-spec : {M : Type 1} → statement M
 evindrast-product-spec =
     tie.close
     (tie.spec
-    product-requires
-    product-requires-2
-    product-requires-3
-    product-requires-4
-    product-requires-5
-    same-length
+    (λ c κs. search needs) (λ c κs. search needs) (λ c κs. search needs) (λ c κs. search needs) (λ c κs. search needs)
+    (λ c. search needs)
     returns
-    same-length-2
+    (λ c. search needs)
     returns-2
-    same-length-3
+    (λ c. search needs)
     returns-3
-    same-length-4
+    (λ c. search needs)
     returns-4
-    same-length-5
+    (λ c. search needs)
     returns-5
     returns-6)

@@ -9,51 +9,21 @@ use borrow.Author.Needs.{needs}
 use Rattle.exports.proofs.record.evindrast_record.Statement.{statement}
 use Rattle.exports.proofs.record.evindrast_record.Tie as tie
 
-call-requires : tie.Need-call-requires
-call-requires c κs = search needs
-
-call-requires-2 : tie.Need-call-requires-2
-call-requires-2 c κs = search needs
-
-call-requires-3 : tie.Need-call-requires-3
-call-requires-3 c κs = search needs
-
-call-requires-4 : tie.Need-call-requires-4
-call-requires-4 c κs = search needs
-
-call-requires-5 : tie.Need-call-requires-5
-call-requires-5 c κs = search needs
-
-same-length : tie.Need-same-length
-same-length c = search needs
-
 returns : tie.Need-returns
 unfolding recordLeft
 returns c = rw (c .before .before .before .before .match .keys1) (rw (toZ-ofZ w32 (c .before .before .before .before .before .before .before .before .args .exponent) (search needs)) at (c .before .before .call .ensures))
-
-same-length-2 : tie.Need-same-length-2
-same-length-2 c = search needs
 
 returns-2 : tie.Need-returns-2
 unfolding recordLeft
 returns-2 c = rw (c .before .before .before .before .match .keys2) (rw (toZ-ofZ w32 (c .before .before .before .before .before .before .before .before .args .exponent) (search needs)) at (c .before .before .call2 .ensures))
 
-same-length-3 : tie.Need-same-length-3
-same-length-3 c = search needs
-
 returns-3 : tie.Need-returns-3
 unfolding recordLeft
 returns-3 c = rw (c .before .before .before .before .match .keys3) (rw (toZ-ofZ w32 (c .before .before .before .before .before .before .before .before .args .exponent) (search needs)) at (c .before .before .call3 .ensures))
 
-same-length-4 : tie.Need-same-length-4
-same-length-4 c = search needs
-
 returns-4 : tie.Need-returns-4
 unfolding recordLeft
 returns-4 c = rw (c .before .before .before .before .match .keys4) (rw (toZ-ofZ w32 (c .before .before .before .before .before .before .before .before .args .exponent) (search needs)) at (c .before .before .call4 .ensures))
-
-same-length-5 : tie.Need-same-length-5
-same-length-5 c = search needs
 
 returns-5 : tie.Need-returns-5
 unfolding recordLeft
@@ -69,19 +39,15 @@ pub evindrast-record-spec : {M : Type 1} → statement M
 evindrast-record-spec =
     tie.close
     (tie.spec
-    call-requires
-    call-requires-2
-    call-requires-3
-    call-requires-4
-    call-requires-5
-    same-length
+    (λ c κs. search needs) (λ c κs. search needs) (λ c κs. search needs) (λ c κs. search needs) (λ c κs. search needs)
+    (λ c. search needs)
     returns
-    same-length-2
+    (λ c. search needs)
     returns-2
-    same-length-3
+    (λ c. search needs)
     returns-3
-    same-length-4
+    (λ c. search needs)
     returns-4
-    same-length-5
+    (λ c. search needs)
     returns-5
     returns-6)

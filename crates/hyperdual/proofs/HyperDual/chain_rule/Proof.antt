@@ -8,4 +8,5 @@ unfolding hyperDualChain
 returns c = refl
 
 pub chain-rule-spec : {M : Type 1} → statement M
-chain-rule-spec = tie.close (tie.spec returns)
+chain-rule-spec = tie.close (tie.spec
+    returns)

@@ -31,8 +31,7 @@ pub run-column-spec : {M : Type 1} → statement M
 run-column-spec =
     tie.close
     (tie.spec
-    (λ c κs. search needs) (λ c. search needs) (λ c. search needs) (λ c. search needs)
-    (λ c. search needs)
+    (λ c κs. search needs) (λ c. search needs) (λ c. search needs) (λ c. search needs) (λ c. search needs)
     returns
     (λ c κs. search needs) (λ c. search needs) (λ c. search needs)
     returns-2)

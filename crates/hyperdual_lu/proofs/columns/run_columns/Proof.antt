@@ -16,8 +16,7 @@ run-columns-spec =
     tie.close
     (tie.spec Inv-loop μ-loop
     (λ c. search (needs, columns-start hyper-dual-laws))
-    (λ c κs. search needs) (λ c. search needs) (λ c. search needs) (λ c. search needs)
-    (λ c. search needs)
+    (λ c κs. search needs) (λ c. search needs) (λ c. search needs) (λ c. search needs) (λ c. search needs)
     (λ c. search (needs, columns-stop hyper-dual-laws))
     (λ c. search needs) (λ c. search needs)
     (λ c. search (needs, columns-turn hyper-dual-laws))

@@ -17,8 +17,7 @@ subtract-row-spec =
     (tie.spec Inv-loop μ-loop
     (λ c. search needs) (λ c. search needs) (λ c. search needs)
     (λ c. search (needs, subtract-start hyper-dual-laws))
-    (λ c. search needs) (λ c. search needs) (λ c κs. search needs) (λ c. search needs)
-    (λ c. search needs)
+    (λ c. search needs) (λ c. search needs) (λ c κs. search needs) (λ c. search needs) (λ c. search needs)
     (λ c. search (needs, subtract-turn hyper-dual-laws))
     (λ c. search needs)
     (λ c. search (needs, subtract-end hyper-dual-laws)))

@@ -2,17 +2,6 @@ use borrow.Author.Needs.{needs}
 use Rattle.hyperhyperdual.proofs.HyperHyperDual.atan2.Statement.{statement}
 use Rattle.hyperhyperdual.proofs.HyperHyperDual.atan2.Tie as tie
 
-div-requires : tie.Need-div-requires
-div-requires c κs = search needs
-
-atan-requires : tie.Need-atan-requires
-atan-requires c κs = search needs
-
-chain-requires : tie.Need-chain-requires
-chain-requires c κs = search needs
-
-returns : tie.Need-returns
-returns c = cc
-
 pub atan2-spec : {M : Type 1} → statement M
-atan2-spec = tie.close (tie.spec div-requires atan-requires chain-requires returns)
+atan2-spec = tie.close (tie.spec
+    (λ c κs. search needs) (λ c κs. search needs) (λ c κs. search needs) (λ c. cc))

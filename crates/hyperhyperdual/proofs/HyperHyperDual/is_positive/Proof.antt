@@ -2,11 +2,6 @@ use borrow.Author.Needs.{needs}
 use Rattle.hyperhyperdual.proofs.HyperHyperDual.is_positive.Statement.{statement}
 use Rattle.hyperhyperdual.proofs.HyperHyperDual.is_positive.Tie as tie
 
-is-negative-requires : tie.Need-is-negative-requires
-is-negative-requires c κs = search needs
-
-returns : tie.Need-returns
-returns c = cc
-
 pub is-positive-spec : {M : Type 1} → statement M
-is-positive-spec = tie.close (tie.spec is-negative-requires returns)
+is-positive-spec = tie.close (tie.spec
+    (λ c κs. search needs) (λ c. cc))

@@ -2,90 +2,6 @@ use borrow.Author.Needs.{needs}
 use Rattle.hyperhyperdual.proofs.HyperHyperDual.run.Statement.{statement}
 use Rattle.hyperhyperdual.proofs.HyperHyperDual.run.Tie as tie
 
-enum-known-p : tie.Need-enum-known-p
-enum-known-p c = search needs
-
-enum-told : tie.Need-enum-told
-enum-told c = search needs
-
-enum-told-2 : tie.Need-enum-told-2
-enum-told-2 c = search needs
-
-enum-told-3 : tie.Need-enum-told-3
-enum-told-3 c = search needs
-
-mul-requires : tie.Need-mul-requires
-mul-requires c κs = search needs
-
-enum-known-p-2 : tie.Need-enum-known-p-2
-enum-known-p-2 c = search needs
-
-chain-requires : tie.Need-chain-requires
-chain-requires c κs = search needs
-
-enum-known-p-3 : tie.Need-enum-known-p-3
-enum-known-p-3 c = search needs
-
-chain-requires-2 : tie.Need-chain-requires-2
-chain-requires-2 c κs = search needs
-
-chain-requires-3 : tie.Need-chain-requires-3
-chain-requires-3 c κs = search needs
-
-div-requires : tie.Need-div-requires
-div-requires c κs = search needs
-
-enum-told-4 : tie.Need-enum-told-4
-enum-told-4 c = search needs
-
-small-j0-requires : tie.Need-small-j0-requires
-small-j0-requires c κs = search needs
-
-enum-told-5 : tie.Need-enum-told-5
-enum-told-5 c = search needs
-
-div-float-requires : tie.Need-div-float-requires
-div-float-requires c κs = search needs
-
-enum-told-6 : tie.Need-enum-told-6
-enum-told-6 c = search needs
-
-small-j2-requires : tie.Need-small-j2-requires
-small-j2-requires c κs = search needs
-
-enum-known-p-4 : tie.Need-enum-known-p-4
-enum-known-p-4 c = search needs
-
-chain-requires-4 : tie.Need-chain-requires-4
-chain-requires-4 c κs = search needs
-
-div-requires-2 : tie.Need-div-requires-2
-div-requires-2 c κs = search needs
-
-enum-known-p-5 : tie.Need-enum-known-p-5
-enum-known-p-5 c = search needs
-
-chain-requires-5 : tie.Need-chain-requires-5
-chain-requires-5 c κs = search needs
-
-chain-requires-6 : tie.Need-chain-requires-6
-chain-requires-6 c κs = search needs
-
-bessel-j1-requires : tie.Need-bessel-j1-requires
-bessel-j1-requires c κs = search needs
-
-enum-known-p-6 : tie.Need-enum-known-p-6
-enum-known-p-6 c = search needs
-
-chain-requires-7 : tie.Need-chain-requires-7
-chain-requires-7 c κs = search needs
-
-chain-requires-8 : tie.Need-chain-requires-8
-chain-requires-8 c κs = search needs
-
-bessel-j2-requires : tie.Need-bessel-j2-requires
-bessel-j2-requires c κs = search needs
-
 returns : tie.Need-returns
 returns c = rw (c .before .p .given .1)
 
@@ -126,34 +42,12 @@ pub run-spec : {M : Type 1} → statement M
 run-spec =
     tie.close
     (tie.spec
-    enum-known-p
-    enum-told
-    enum-told-2
-    enum-told-3
-    mul-requires
-    enum-known-p-2
-    chain-requires
-    enum-known-p-3
-    chain-requires-2
-    chain-requires-3
-    div-requires
-    enum-told-4
-    small-j0-requires
-    enum-told-5
-    div-float-requires
-    enum-told-6
-    small-j2-requires
-    enum-known-p-4
-    chain-requires-4
-    div-requires-2
-    enum-known-p-5
-    chain-requires-5
-    chain-requires-6
-    bessel-j1-requires
-    enum-known-p-6
-    chain-requires-7
-    chain-requires-8
-    bessel-j2-requires
+    (λ c. search needs) (λ c. search needs) (λ c. search needs) (λ c. search needs) (λ c κs. search needs)
+    (λ c. search needs) (λ c κs. search needs) (λ c. search needs) (λ c κs. search needs) (λ c κs. search needs)
+    (λ c κs. search needs) (λ c. search needs) (λ c κs. search needs) (λ c. search needs) (λ c κs. search needs)
+    (λ c. search needs) (λ c κs. search needs) (λ c. search needs) (λ c κs. search needs) (λ c κs. search needs)
+    (λ c. search needs) (λ c κs. search needs) (λ c κs. search needs) (λ c κs. search needs) (λ c. search needs)
+    (λ c κs. search needs) (λ c κs. search needs) (λ c κs. search needs)
     returns
     returns-2
     returns-3

@@ -2,14 +2,8 @@ use borrow.Author.Needs.{needs}
 use Rattle.hyperhyperdual.proofs.HyperHyperDual.signum.Statement.{statement}
 use Rattle.hyperhyperdual.proofs.HyperHyperDual.signum.Tie as tie
 
-is-negative-requires : tie.Need-is-negative-requires
-is-negative-requires c κs = search needs
-
 returns : tie.Need-returns
 returns c = rw (← c .before .before .before .is-negative .ensures, c .before .before .if1 .taken, c .if2 .taken)
-
-neg-requires : tie.Need-neg-requires
-neg-requires c κs = search needs
 
 returns-2 : tie.Need-returns-2
 returns-2 c = rw (← c .before .before .before .before .is-negative .ensures, c .before .before .before .if1 .taken, c .before .if2 .left) (c .neg .ensures)
@@ -18,4 +12,9 @@ returns-3 : tie.Need-returns-3
 returns-3 c = rw (← c .before .is-negative .ensures, c .if1 .left)
 
 pub signum-spec : {M : Type 1} → statement M
-signum-spec = tie.close (tie.spec is-negative-requires returns neg-requires returns-2 returns-3)
+signum-spec = tie.close (tie.spec
+    (λ c κs. search needs)
+    returns
+    (λ c κs. search needs)
+    returns-2
+    returns-3)

@@ -2,14 +2,6 @@ use borrow.Author.Needs.{needs}
 use Rattle.hyperhyperdual.proofs.HyperHyperDual.small_j2.Statement.{statement}
 use Rattle.hyperhyperdual.proofs.HyperHyperDual.small_j2.Tie as tie
 
-mul-requires : tie.Need-mul-requires
-mul-requires c κs = search needs
-
-div-float-requires : tie.Need-div-float-requires
-div-float-requires c κs = search needs
-
-returns : tie.Need-returns
-returns c = cc
-
 pub small-j2-spec : {M : Type 1} → statement M
-small-j2-spec = tie.close (tie.spec mul-requires div-float-requires returns)
+small-j2-spec = tie.close (tie.spec
+    (λ c κs. search needs) (λ c κs. search needs) (λ c. cc))

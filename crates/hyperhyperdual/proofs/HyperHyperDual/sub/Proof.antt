@@ -8,4 +8,5 @@ unfolding hyperHyperDualSub
 returns c = refl
 
 pub sub-spec : {M : Type 1} → statement M
-sub-spec = tie.close (tie.spec returns)
+sub-spec = tie.close (tie.spec
+    returns)

@@ -8,15 +8,6 @@ use borrow.Author.Needs.{needs}
 use Rattle.jacobi.proofs.prepare.identity.Statement.{statement}
 use Rattle.jacobi.proofs.prepare.identity.Tie as tie
 
-clear-requires : tie.Need-clear-requires
-clear-requires c κs = search needs
-
-put-ones-requires : tie.Need-put-ones-requires
-put-ones-requires c κs = search needs
-
-same-length : tie.Need-same-length
-same-length c = search needs
-
 returns : tie.Need-returns
 unfolding identity
 returns c =
@@ -26,4 +17,6 @@ returns c =
     (p .0, p .1 ∙ ap (upto 0 n (putOne dualAlgebra n)) (blank (n * n) _ _ (s .pre .full) (c .before .before .before .before .before .before .clear .ensures)))
 
 pub identity-spec : {M : Type 1} → statement M
-identity-spec = tie.close (tie.spec clear-requires put-ones-requires same-length returns)
+identity-spec = tie.close (tie.spec
+    (λ c κs. search needs) (λ c κs. search needs) (λ c. search needs)
+    returns)

@@ -7,30 +7,6 @@ use borrow.Author.Needs.{needs}
 use Rattle.jacobi.proofs.prepare.prepare.Statement.{statement}
 use Rattle.jacobi.proofs.prepare.prepare.Tie as tie
 
-copy-requires : tie.Need-copy-requires
-copy-requires c κs = search needs
-
-identity-requires : tie.Need-identity-requires
-identity-requires c κs = search needs
-
-start-sums-requires : tie.Need-start-sums-requires
-start-sums-requires c κs = search needs
-
-same-length : tie.Need-same-length
-same-length c = search needs
-
-same-length-2 : tie.Need-same-length-2
-same-length-2 c = search needs
-
-same-length-3 : tie.Need-same-length-3
-same-length-3 c = search needs
-
-same-length-4 : tie.Need-same-length-4
-same-length-4 c = search needs
-
-same-length-5 : tie.Need-same-length-5
-same-length-5 c = search needs
-
 returns : tie.Need-returns
 unfolding start
 returns c =
@@ -46,12 +22,6 @@ pub prepare-spec : {M : Type 1} → statement M
 prepare-spec =
     tie.close
     (tie.spec
-    copy-requires
-    identity-requires
-    start-sums-requires
-    same-length
-    same-length-2
-    same-length-3
-    same-length-4
-    same-length-5
+    (λ c κs. search needs) (λ c κs. search needs) (λ c κs. search needs) (λ c. search needs) (λ c. search needs)
+    (λ c. search needs) (λ c. search needs) (λ c. search needs)
     returns)

@@ -23,23 +23,11 @@ loop-holds c = (omega arith, (search needs, refl))
 get-requires : tie.Need-get-requires Inv-loop μ-loop
 get-requires c κs = (search needs, (omega arith, omega arith))
 
-write-requires : tie.Need-write-requires Inv-loop μ-loop
-write-requires c κs = omega arith
-
-add-i : tie.Need-add-i Inv-loop μ-loop
-add-i c = search needs
-
-loop-less : tie.Need-loop-less Inv-loop μ-loop
-loop-less c = search needs
-
 loop-again : tie.Need-loop-again Inv-loop μ-loop
 unfolding putDiagonal
 loop-again c =
     let at = c .before .before .before .before .before .before in
     (omega arith, (omega arith, upto-turn (at .loop .i) _ _ (records (at .loop .d)) _ (c .before .before .before .before .before .loop-test .taken) (cc) (at .loop .inv .1 .1)))
-
-same-length : tie.Need-same-length Inv-loop μ-loop
-same-length c = omega arith
 
 returns : tie.Need-returns Inv-loop μ-loop
 returns c = upto-end (c .before .loop .i) _ _ _ (c .loop-test .left) (c .before .loop .inv .1 .1)
@@ -47,14 +35,10 @@ returns c = upto-end (c .before .loop .i) _ _ _ (c .loop-test .left) (c .before 
 pub put-diagonal-spec : {M : Type 1} → statement M
 put-diagonal-spec =
     tie.close
-    (tie.spec
-    Inv-loop
-    μ-loop
+    (tie.spec Inv-loop μ-loop
     loop-holds
     get-requires
-    write-requires
-    add-i
-    loop-less
+    (λ c κs. omega arith) (λ c. search needs) (λ c. search needs)
     loop-again
-    same-length
+    (λ c. omega arith)
     returns)

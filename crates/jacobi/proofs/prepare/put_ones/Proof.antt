@@ -23,20 +23,11 @@ loop-holds c = (omega arith, (search needs, refl))
 put-requires : tie.Need-put-requires Inv-loop μ-loop
 put-requires c κs = (search needs, (omega arith, omega arith))
 
-add-i : tie.Need-add-i Inv-loop μ-loop
-add-i c = search needs
-
-loop-less : tie.Need-loop-less Inv-loop μ-loop
-loop-less c = search needs
-
 loop-again : tie.Need-loop-again Inv-loop μ-loop
 unfolding putOne
 loop-again c =
     let at = c .before .before .before .before .before in
     (omega arith, (search needs, upto-turn (at .loop .i) _ _ (records (at .loop .v)) _ (c .before .before .before .before .loop-test .taken) (c .before .before .put .ensures .1) (at .loop .inv .1 .1)))
-
-same-length : tie.Need-same-length Inv-loop μ-loop
-same-length c = omega arith
 
 returns : tie.Need-returns Inv-loop μ-loop
 returns c = (search needs, upto-end (c .before .loop .i) _ _ _ (c .loop-test .left) (c .before .loop .inv .1 .1))
@@ -44,13 +35,10 @@ returns c = (search needs, upto-end (c .before .loop .i) _ _ _ (c .loop-test .le
 pub put-ones-spec : {M : Type 1} → statement M
 put-ones-spec =
     tie.close
-    (tie.spec
-    Inv-loop
-    μ-loop
+    (tie.spec Inv-loop μ-loop
     loop-holds
     put-requires
-    add-i
-    loop-less
+    (λ c. search needs) (λ c. search needs)
     loop-again
-    same-length
+    (λ c. omega arith)
     returns)

@@ -9,27 +9,6 @@ use borrow.Author.Needs.{needs}
 use Rattle.jacobi.proofs.prepare.start_sums.Statement.{statement}
 use Rattle.jacobi.proofs.prepare.start_sums.Tie as tie
 
-clear-requires : tie.Need-clear-requires
-clear-requires c κs = search needs
-
-put-diagonal-requires : tie.Need-put-diagonal-requires
-put-diagonal-requires c κs = search needs
-
-copy-requires : tie.Need-copy-requires
-copy-requires c κs = search needs
-
-clear-requires-2 : tie.Need-clear-requires-2
-clear-requires-2 c κs = search needs
-
-same-length : tie.Need-same-length
-same-length c = search needs
-
-same-length-2 : tie.Need-same-length-2
-same-length-2 c = search needs
-
-same-length-3 : tie.Need-same-length-3
-same-length-3 c = search needs
-
 returns : tie.Need-returns
 unfolding diagonal
 returns c =
@@ -42,11 +21,6 @@ pub start-sums-spec : {M : Type 1} → statement M
 start-sums-spec =
     tie.close
     (tie.spec
-    clear-requires
-    put-diagonal-requires
-    copy-requires
-    clear-requires-2
-    same-length
-    same-length-2
-    same-length-3
+    (λ c κs. search needs) (λ c κs. search needs) (λ c κs. search needs) (λ c κs. search needs) (λ c. search needs)
+    (λ c. search needs) (λ c. search needs)
     returns)

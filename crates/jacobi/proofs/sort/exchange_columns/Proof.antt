@@ -37,12 +37,6 @@ add-exchange-2 c = let m = inside _ _ _ _ (c .before .before .loop .inv .1 .0) (
 exchange-requires : tie.Need-exchange-requires Inv-loop μ-loop
 exchange-requires c κs = let m = inside _ _ _ _ (c .before .before .loop .inv .1 .0) (c .before .loop-test .taken) (c .before .before .before .before .pre .1 .0) in let k = inside _ _ _ _ (c .before .before .loop .inv .1 .0) (c .before .loop-test .taken) (c .before .before .before .before .pre .1 .1) in (m .there, k .there)
 
-add-l : tie.Need-add-l Inv-loop μ-loop
-add-l c = search needs
-
-loop-less : tie.Need-loop-less Inv-loop μ-loop
-loop-less c = search needs
-
 loop-again : tie.Need-loop-again Inv-loop μ-loop
 unfolding exchangeInRow
 loop-again c =
@@ -50,26 +44,20 @@ loop-again c =
     let s = at .loop .inv .1 .0 in
     (omega arith, (record { small = s .small; some = s .some; narrow = s .narrow; full = omega arith }, upto-turn (at .loop .l) _ _ (records (at .loop .v)) _ (c .before .before .before .before .loop-test .taken) (c .before .before .exchange .ensures) (at .loop .inv .1 .1)))
 
-same-length : tie.Need-same-length Inv-loop μ-loop
-same-length c = omega arith
-
 returns : tie.Need-returns Inv-loop μ-loop
 returns c = (search needs, upto-end (c .before .loop .l) _ _ _ (c .loop-test .left) (c .before .loop .inv .1 .1))
 
 pub exchange-columns-spec : {M : Type 1} → statement M
 exchange-columns-spec =
     tie.close
-    (tie.spec
-    Inv-loop
-    μ-loop
+    (tie.spec Inv-loop μ-loop
     loop-holds
     mul-exchange
     add-exchange
     mul-exchange-2
     add-exchange-2
     exchange-requires
-    add-l
-    loop-less
+    (λ c. search needs) (λ c. search needs)
     loop-again
-    same-length
+    (λ c. omega arith)
     returns)

@@ -16,21 +16,12 @@ Inv-loop n d k m₀ l₀ m l = (m < n) × ((l ≤ n) × (upto l n (smaller dualA
 abbrev μ-loop : tie.MeasureT-loop
 μ-loop n d k m₀ l₀ m l = n - l
 
-add-l : tie.Need-add-l Inv-loop μ-loop
-add-l c = search needs
-
 loop-holds : tie.Need-loop-holds Inv-loop μ-loop
 unfolding least
 loop-holds c = (omega arith, (omega arith, refl))
 
 smaller-requires : tie.Need-smaller-requires Inv-loop μ-loop
 smaller-requires c κs = (search needs, (omega arith, omega arith))
-
-add-l-2 : tie.Need-add-l-2 Inv-loop μ-loop
-add-l-2 c = search needs
-
-loop-less : tie.Need-loop-less Inv-loop μ-loop
-loop-less c = search needs
 
 loop-again : tie.Need-loop-again Inv-loop μ-loop
 loop-again c =
@@ -43,13 +34,10 @@ returns c = (upto-end (c .before .loop .l) _ _ _ (c .loop-test .left) (c .before
 pub least-spec : {M : Type 1} → statement M
 least-spec =
     tie.close
-    (tie.spec
-    Inv-loop
-    μ-loop
-    add-l
+    (tie.spec Inv-loop μ-loop
+    (λ c. search needs)
     loop-holds
     smaller-requires
-    add-l-2
-    loop-less
+    (λ c. search needs) (λ c. search needs)
     loop-again
     returns)

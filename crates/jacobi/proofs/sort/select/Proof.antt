@@ -4,26 +4,8 @@ use borrow.Author.Needs.{needs}
 use Rattle.jacobi.proofs.sort.select.Statement.{statement}
 use Rattle.jacobi.proofs.sort.select.Tie as tie
 
-least-requires : tie.Need-least-requires
-least-requires c κs = search needs
-
-same-length : tie.Need-same-length
-same-length c = search needs
-
 returns : tie.Need-returns
 returns c = (c .before .before .before .before .before .pre .0 .1, select-stays dualAlgebra _ _ _ _ (c .before .least .ensures .0) (c .if1 .taken))
-
-exchange-requires : tie.Need-exchange-requires
-exchange-requires c κs = search needs
-
-exchange-columns-requires : tie.Need-exchange-columns-requires
-exchange-columns-requires c κs = search needs
-
-same-length-2 : tie.Need-same-length-2
-same-length-2 c = search needs
-
-same-length-3 : tie.Need-same-length-3
-same-length-3 c = search needs
 
 returns-2 : tie.Need-returns-2
 returns-2 c =
@@ -34,11 +16,7 @@ pub select-spec : {M : Type 1} → statement M
 select-spec =
     tie.close
     (tie.spec
-    least-requires
-    same-length
+    (λ c κs. search needs) (λ c. search needs)
     returns
-    exchange-requires
-    exchange-columns-requires
-    same-length-2
-    same-length-3
+    (λ c κs. search needs) (λ c κs. search needs) (λ c. search needs) (λ c. search needs)
     returns-2)

@@ -18,21 +18,12 @@ Inv-loop n d₀ v₀ k₀ k-end d v k = ((k-end ≡ n - 1) × (k ≤ k-end)) × 
 abbrev μ-loop : tie.MeasureT-loop
 μ-loop n d₀ v₀ k₀ k-end d v k = k-end - k
 
-sub-k-end : tie.Need-sub-k-end Inv-loop μ-loop
-sub-k-end c = search needs
-
 loop-holds : tie.Need-loop-holds Inv-loop μ-loop
 unfolding sort
 loop-holds c = (omega arith, (search needs, (search needs, refl)))
 
 select-requires : tie.Need-select-requires Inv-loop μ-loop
 select-requires c κs = let at = c .before .before .before in let i = at .loop .inv .0 in let h = c .before .before .loop-test .taken in ((at .loop .inv .1 .0, at .loop .inv .1 .1 .0), omega arith)
-
-add-k : tie.Need-add-k Inv-loop μ-loop
-add-k c = search needs
-
-loop-less : tie.Need-loop-less Inv-loop μ-loop
-loop-less c = search needs
 
 loop-again : tie.Need-loop-again Inv-loop μ-loop
 loop-again c =
@@ -42,27 +33,17 @@ loop-again c =
     let s = c .before .before .before .before .select .ensures in
     (omega arith, (omega arith, (s .0, upto-turn (at .loop .k) _ _ (pairs (records (at .loop .d)) (records (at .loop .v))) _ (omega arith) (s .1) (at .loop .inv .1 .1 .1))))
 
-same-length : tie.Need-same-length Inv-loop μ-loop
-same-length c = omega arith
-
-same-length-2 : tie.Need-same-length-2 Inv-loop μ-loop
-same-length-2 c = omega arith
-
 returns : tie.Need-returns Inv-loop μ-loop
 returns c = let i = c .before .loop .inv in let h = c .loop-test .left in upto-end (c .before .loop .k) _ _ _ (omega arith) (i .1 .1 .1)
 
 pub sort-spec : {M : Type 1} → statement M
 sort-spec =
     tie.close
-    (tie.spec
-    Inv-loop
-    μ-loop
-    sub-k-end
+    (tie.spec Inv-loop μ-loop
+    (λ c. search needs)
     loop-holds
     select-requires
-    add-k
-    loop-less
+    (λ c. search needs) (λ c. search needs)
     loop-again
-    same-length
-    same-length-2
+    (λ c. omega arith) (λ c. omega arith)
     returns)

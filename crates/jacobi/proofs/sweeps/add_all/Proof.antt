@@ -21,32 +21,11 @@ loop-holds : tie.Need-loop-holds Inv-loop μ-loop
 unfolding addAll
 loop-holds c = (omega arith, (search needs, refl))
 
-read-requires : tie.Need-read-requires Inv-loop μ-loop
-read-requires c κs = omega arith
-
-read-requires-2 : tie.Need-read-requires-2 Inv-loop μ-loop
-read-requires-2 c κs = omega arith
-
-add-requires : tie.Need-add-requires Inv-loop μ-loop
-add-requires c κs = search needs
-
-write-requires : tie.Need-write-requires Inv-loop μ-loop
-write-requires c κs = omega arith
-
-add-i : tie.Need-add-i Inv-loop μ-loop
-add-i c = search needs
-
-loop-less : tie.Need-loop-less Inv-loop μ-loop
-loop-less c = search needs
-
 loop-again : tie.Need-loop-again Inv-loop μ-loop
 unfolding addItem
 loop-again c =
     let at = c .before .before .before .before .before .before .before .before .before in
     (omega arith, (omega arith, upto-turn (at .loop .i) _ _ (records (at .loop .bw)) _ (c .before .before .before .before .before .before .before .before .loop-test .taken) (cc) (at .loop .inv .1 .1)))
-
-same-length : tie.Need-same-length Inv-loop μ-loop
-same-length c = omega arith
 
 returns : tie.Need-returns Inv-loop μ-loop
 returns c = upto-end (c .before .loop .i) _ _ _ (c .loop-test .left) (c .before .loop .inv .1 .1)
@@ -54,16 +33,10 @@ returns c = upto-end (c .before .loop .i) _ _ _ (c .loop-test .left) (c .before 
 pub add-all-spec : {M : Type 1} → statement M
 add-all-spec =
     tie.close
-    (tie.spec
-    Inv-loop
-    μ-loop
+    (tie.spec Inv-loop μ-loop
     loop-holds
-    read-requires
-    read-requires-2
-    add-requires
-    write-requires
-    add-i
-    loop-less
+    (λ c κs. omega arith) (λ c κs. omega arith) (λ c κs. search needs) (λ c κs. omega arith) (λ c. search needs)
+    (λ c. search needs)
     loop-again
-    same-length
+    (λ c. omega arith)
     returns)

@@ -24,12 +24,6 @@ loop-holds c = (omega arith, refl)
 get-requires : tie.Need-get-requires Inv-loop μ-loop
 get-requires c κs = (search needs, (omega arith, omega arith))
 
-add-i : tie.Need-add-i Inv-loop μ-loop
-add-i c = search needs
-
-loop-less : tie.Need-loop-less Inv-loop μ-loop
-loop-less c = search needs
-
 loop-again : tie.Need-loop-again Inv-loop μ-loop
 loop-again c =
     let at = c .before .before .before in
@@ -40,4 +34,9 @@ returns c = upto-end (c .before .loop .i) _ _ _ (c .loop-test .left) (c .before 
 
 pub column-squares-spec : {M : Type 1} → statement M
 column-squares-spec =
-    tie.close (tie.spec Inv-loop μ-loop loop-holds get-requires add-i loop-less loop-again returns)
+    tie.close (tie.spec Inv-loop μ-loop
+    loop-holds
+    get-requires
+    (λ c. search needs) (λ c. search needs)
+    loop-again
+    returns)

@@ -17,9 +17,6 @@ Inv-loop n a₀ v₀ d₀ zw₀ thresh it-num p rotations count₀ q₀ a v d zw
 abbrev μ-loop : tie.MeasureT-loop
 μ-loop n a₀ v₀ d₀ zw₀ thresh it-num p rotations count₀ q₀ a v d zw count q = n - q
 
-add-q : tie.Need-add-q Inv-loop μ-loop
-add-q c = search needs
-
 loop-holds : tie.Need-loop-holds Inv-loop μ-loop
 unfolding row
 loop-holds c = (omega arith, (omega arith, (search needs, refl)))
@@ -43,18 +40,6 @@ loop-again c =
     let k = s .1 .1 in
     (omega arith, (omega arith, (s .0, upto-turn (at .loop .q) _ _ (workOf (at .loop .a) (at .loop .v) (at .loop .d) (at .loop .zw) (at .loop .count)) _ h (s .1 .0) (at .loop .inv .1 .1 .1))))
 
-same-length : tie.Need-same-length Inv-loop μ-loop
-same-length c = omega arith
-
-same-length-2 : tie.Need-same-length-2 Inv-loop μ-loop
-same-length-2 c = omega arith
-
-same-length-3 : tie.Need-same-length-3 Inv-loop μ-loop
-same-length-3 c = omega arith
-
-same-length-4 : tie.Need-same-length-4 Inv-loop μ-loop
-same-length-4 c = omega arith
-
 returns : tie.Need-returns Inv-loop μ-loop
 returns c =
     let i = c .before .loop .inv in
@@ -64,17 +49,12 @@ returns c =
 pub row-spec : {M : Type 1} → statement M
 row-spec =
     tie.close
-    (tie.spec
-    Inv-loop
-    μ-loop
-    add-q
+    (tie.spec Inv-loop μ-loop
+    (λ c. search needs)
     loop-holds
     pair-requires
     add-q-2
     loop-less
     loop-again
-    same-length
-    same-length-2
-    same-length-3
-    same-length-4
+    (λ c. omega arith) (λ c. omega arith) (λ c. omega arith) (λ c. omega arith)
     returns)

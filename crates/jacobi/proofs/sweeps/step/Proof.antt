@@ -5,35 +5,8 @@ use borrow.Author.Needs.{needs}
 use Rattle.jacobi.proofs.sweeps.step.Statement.{statement}
 use Rattle.jacobi.proofs.sweeps.step.Tie as tie
 
-threshold-requires : tie.Need-threshold-requires
-threshold-requires c κs = search needs
-
-same-length : tie.Need-same-length
-same-length c = search needs
-
 returns : tie.Need-returns
 returns c = (c .before .before .before .before .before .before .before .before .pre .0, (step-stops dualAlgebra _ _ _ _ _ _ (c .before .threshold .ensures) (c .if1 .taken), omega arith))
-
-sweep-requires : tie.Need-sweep-requires
-sweep-requires c κs = search needs
-
-close-sweep-requires : tie.Need-close-sweep-requires
-close-sweep-requires c κs = search needs
-
-same-length-2 : tie.Need-same-length-2
-same-length-2 c = search needs
-
-same-length-3 : tie.Need-same-length-3
-same-length-3 c = search needs
-
-same-length-4 : tie.Need-same-length-4
-same-length-4 c = search needs
-
-same-length-5 : tie.Need-same-length-5
-same-length-5 c = search needs
-
-same-length-6 : tie.Need-same-length-6
-same-length-6 c = search needs
 
 returns-2 : tie.Need-returns-2
 returns-2 c =
@@ -49,14 +22,8 @@ pub step-spec : {M : Type 1} → statement M
 step-spec =
     tie.close
     (tie.spec
-    threshold-requires
-    same-length
+    (λ c κs. search needs) (λ c. search needs)
     returns
-    sweep-requires
-    close-sweep-requires
-    same-length-2
-    same-length-3
-    same-length-4
-    same-length-5
-    same-length-6
+    (λ c κs. search needs) (λ c κs. search needs) (λ c. search needs) (λ c. search needs) (λ c. search needs)
+    (λ c. search needs) (λ c. search needs)
     returns-2)

@@ -23,12 +23,6 @@ loop-holds c = (omega arith, refl)
 column-squares-requires : tie.Need-column-squares-requires Inv-loop μ-loop
 column-squares-requires c κs = (search needs, omega arith)
 
-add-j : tie.Need-add-j Inv-loop μ-loop
-add-j c = search needs
-
-loop-less : tie.Need-loop-less Inv-loop μ-loop
-loop-less c = search needs
-
 loop-again : tie.Need-loop-again Inv-loop μ-loop
 loop-again c =
     let at = c .before .before in
@@ -40,12 +34,9 @@ returns c = upto-end (c .before .loop .j) _ _ _ (c .loop-test .left) (c .before 
 pub sum-of-squares-spec : {M : Type 1} → statement M
 sum-of-squares-spec =
     tie.close
-    (tie.spec
-    Inv-loop
-    μ-loop
+    (tie.spec Inv-loop μ-loop
     loop-holds
     column-squares-requires
-    add-j
-    loop-less
+    (λ c. search needs) (λ c. search needs)
     loop-again
     returns)

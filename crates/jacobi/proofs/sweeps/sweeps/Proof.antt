@@ -29,27 +29,6 @@ loop-holds c = (omega arith, (search needs, (search needs, refl)))
 step-requires : tie.Need-step-requires Inv-loop μ-loop
 step-requires c κs = let i = c .before .before .before .before .before .before .loop .inv in let j = i .0 in let h = c .before .before .before .before .before .loop-test .taken in let l = c .before .before .before .before .before .before .before .before .before .before .before .before .pre .1 .1 in (i .1 .1 .0, (i .1 .0, omega arith))
 
-enum-known-s : tie.Need-enum-known-s Inv-loop μ-loop
-enum-known-s c = search needs
-
-enum-told : tie.Need-enum-told Inv-loop μ-loop
-enum-told c = search needs
-
-same-length : tie.Need-same-length Inv-loop μ-loop
-same-length c = search needs
-
-same-length-2 : tie.Need-same-length-2 Inv-loop μ-loop
-same-length-2 c = search needs
-
-same-length-3 : tie.Need-same-length-3 Inv-loop μ-loop
-same-length-3 c = search needs
-
-same-length-4 : tie.Need-same-length-4 Inv-loop μ-loop
-same-length-4 c = search needs
-
-same-length-5 : tie.Need-same-length-5 Inv-loop μ-loop
-same-length-5 c = search needs
-
 returns : tie.Need-returns Inv-loop μ-loop
 returns c =
     let at = c .before .before .before .before .before .before .before .before .before .before .before .before .before .before .before .before .before .before .before in
@@ -76,21 +55,6 @@ loop-again c =
       (omega arith, (s .ensures .0, upto-turn (at .loop .it-num) _ _ (runOf (at .loop .a) (at .loop .v) (at .loop .d) (at .loop .zw) (at .loop .bw) (at .loop .rotations) (at .loop .it-num)) _ h (sym e ∙ s .ensures .1 .0) (at .loop .inv .1 .1 .1))),
     )
 
-same-length-6 : tie.Need-same-length-6 Inv-loop μ-loop
-same-length-6 c = omega arith
-
-same-length-7 : tie.Need-same-length-7 Inv-loop μ-loop
-same-length-7 c = omega arith
-
-same-length-8 : tie.Need-same-length-8 Inv-loop μ-loop
-same-length-8 c = omega arith
-
-same-length-9 : tie.Need-same-length-9 Inv-loop μ-loop
-same-length-9 c = omega arith
-
-same-length-10 : tie.Need-same-length-10 Inv-loop μ-loop
-same-length-10 c = omega arith
-
 returns-2 : tie.Need-returns-2 Inv-loop μ-loop
 returns-2 c =
     let at = c .before .loop in
@@ -101,25 +65,14 @@ returns-2 c =
 pub sweeps-spec : {M : Type 1} → statement M
 sweeps-spec =
     tie.close
-    (tie.spec
-    Inv-loop
-    μ-loop
+    (tie.spec Inv-loop μ-loop
     loop-holds
     step-requires
-    enum-known-s
-    enum-told
-    same-length
-    same-length-2
-    same-length-3
-    same-length-4
-    same-length-5
+    (λ c. search needs) (λ c. search needs) (λ c. search needs) (λ c. search needs) (λ c. search needs)
+    (λ c. search needs) (λ c. search needs)
     returns
     add-it-num
     loop-less
     loop-again
-    same-length-6
-    same-length-7
-    same-length-8
-    same-length-9
-    same-length-10
+    (λ c. omega arith) (λ c. omega arith) (λ c. omega arith) (λ c. omega arith) (λ c. omega arith)
     returns-2)

@@ -9,12 +9,6 @@ use Rattle.jacobi.proofs.Calls.{in-float}
 use Rattle.jacobi.proofs.sweeps.threshold.Statement.{statement}
 use Rattle.jacobi.proofs.sweeps.threshold.Tie as tie
 
-sum-of-squares-requires : tie.Need-sum-of-squares-requires
-sum-of-squares-requires c κs = search needs
-
-sqrt-requires : tie.Need-sqrt-requires
-sqrt-requires c κs = search needs
-
 int-to-float-result : tie.Need-int-to-float-result
 int-to-float-result c = in-float _ (c .before .before .before .before .pre .small)
 
@@ -23,4 +17,7 @@ unfolding thresholdOf
 returns c = ap (λ (y : Float). y ⊘ ofInt binary64 (pos (c .before .before .before .before .args .n))) (c .before .sqrt .ensures ∙ ap sqrtOf (c .before .before .sum-of-squares .ensures))
 
 pub threshold-spec : {M : Type 1} → statement M
-threshold-spec = tie.close (tie.spec sum-of-squares-requires sqrt-requires int-to-float-result returns)
+threshold-spec = tie.close (tie.spec
+    (λ c κs. search needs) (λ c κs. search needs)
+    int-to-float-result
+    returns)

@@ -8,9 +8,6 @@ use Rattle.matrices.proofs.Walk.{one-shifted}
 use Rattle.matrices.proofs.order.is_full.Statement.{statement}
 use Rattle.matrices.proofs.order.is_full.Tie as tie
 
-shl-result : tie.Need-shl-result
-shl-result c = search needs
-
 sub-result : tie.Need-sub-result
 sub-result c = omega (arith, one-shifted (c .args .n) (omega arith), pow-pos (c .args .n))
 
@@ -18,4 +15,7 @@ returns : tie.Need-returns
 returns c = ap (λ (k : ℕ). eqb (c .args .word / 2 ^ 32) (k - 1)) (one-shifted (c .args .n) (omega arith))
 
 pub is-full-spec : {M : Type 1} → statement M
-is-full-spec = tie.close (tie.spec shl-result sub-result returns)
+is-full-spec = tie.close (tie.spec
+    (λ c. search needs)
+    sub-result
+    returns)

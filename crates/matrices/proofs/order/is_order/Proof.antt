@@ -35,8 +35,7 @@ is-order-spec =
     tie.close
     (tie.spec Inv-loop μ-loop
     (λ c. marking _ _)
-    (λ c. search needs)
-    (λ c. search needs)
+    (λ c. search needs) (λ c. search needs)
     (λ c. search (needs, stop))
     (λ c κs. search (needs, bit))
     (λ c. search needs) (λ c. search needs)

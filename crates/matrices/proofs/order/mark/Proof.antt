@@ -15,14 +15,8 @@ shifted x h = shl-exact 33 x 64 (omega arith) (omega arith)
 mark-by : (x : ℕ) → x < 32 → 4294967297 * 2 ^ x % 2 ^ 64 - 1 ≡ markOf x
 mark-by x h = let e = shifted x h in let p = pow-pos x in omega arith
 
-shl-t5 : tie.Need-shl-t5
-shl-t5 c = search needs
-
 sub-t6 : tie.Need-sub-t6
 sub-t6 c = omega (arith, shifted (c .args .x) (search needs), pow-pos (c .args .x))
-
-shr-t9 : tie.Need-shr-t9
-shr-t9 c = search needs
 
 returns : tie.Need-returns
 returns c =
@@ -31,4 +25,8 @@ returns c =
     λ i. record { word = bitXor (m .word) (mark-by x (c .before .pre) i); pairs = bitXor (m .pairs) (m .word / 2 ^ x) }
 
 pub mark-spec : {M : Type 1} → statement M
-mark-spec = tie.close (tie.spec shl-t5 sub-t6 shr-t9 returns)
+mark-spec = tie.close (tie.spec
+    (λ c. search needs)
+    sub-t6
+    (λ c. search needs)
+    returns)

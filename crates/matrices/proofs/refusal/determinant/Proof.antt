@@ -25,4 +25,10 @@ returns-4 c = rw (le-ltb 32 _ (c .before .before .if1 .left), eq-eqb _ _ (c .bef
 
 pub determinant-spec : {M : Type 1} → statement M
 determinant-spec =
-    tie.close (tie.spec returns mul-if2 mul-if2-2 returns-2 returns-3 returns-4)
+    tie.close (tie.spec
+    returns
+    mul-if2
+    mul-if2-2
+    returns-2
+    returns-3
+    returns-4)

@@ -24,9 +24,6 @@ returns-3 c = rw (le-ltb 32 _ (c .before .before .if1 .left), eq-eqb _ _ (c .bef
 returns-4 : tie.Need-returns-4
 returns-4 c = rw (le-ltb 32 _ (c .before .before .before .if1 .left), eq-eqb _ _ (c .before .before .if2 .left), eq-eqb _ _ (c .before .if3 .left), ne-eqb _ _ (c .if4 .taken)) refl
 
-not-an-order-requires : tie.Need-not-an-order-requires
-not-an-order-requires c κs = search needs
-
 returns-5 : tie.Need-returns-5
 returns-5 c = rw (le-ltb 32 _ (c .before .before .before .before .if1 .left), eq-eqb _ _ (c .before .before .before .if2 .left), eq-eqb _ _ (c .before .before .if3 .left), eq-eqb _ _ (c .before .if4 .left)) (c .not-an-order .ensures)
 
@@ -40,5 +37,5 @@ inverse-spec =
     returns-2
     returns-3
     returns-4
-    not-an-order-requires
+    (λ c κs. search needs)
     returns-5)

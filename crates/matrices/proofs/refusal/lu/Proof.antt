@@ -27,4 +27,11 @@ returns-5 : tie.Need-returns-5
 returns-5 c = rw (le-ltb 32 _ (c .before .before .before .if1 .left), eq-eqb _ _ (c .before .before .if2 .left), eq-eqb _ _ (c .before .if3 .left), eq-eqb _ _ (c .if4 .left)) refl
 
 pub lu-spec : {M : Type 1} → statement M
-lu-spec = tie.close (tie.spec returns mul-full mul-full-2 returns-2 returns-3 returns-4 returns-5)
+lu-spec = tie.close (tie.spec
+    returns
+    mul-full
+    mul-full-2
+    returns-2
+    returns-3
+    returns-4
+    returns-5)

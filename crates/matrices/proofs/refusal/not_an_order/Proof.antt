@@ -4,9 +4,6 @@ use borrow.Author.Needs.{needs}
 use Rattle.matrices.proofs.refusal.not_an_order.Statement.{statement}
 use Rattle.matrices.proofs.refusal.not_an_order.Tie as tie
 
-is-order-requires : tie.Need-is-order-requires
-is-order-requires c κs = search needs
-
 returns : tie.Need-returns
 returns c = ap (λ (t : Bool). cond t 0 7) (sym (c .if1 .taken) ∙ c .before .is-order .ensures)
 
@@ -14,4 +11,7 @@ returns-2 : tie.Need-returns-2
 returns-2 c = ap (λ (t : Bool). cond t 0 7) (sym (c .if1 .left) ∙ c .before .is-order .ensures)
 
 pub not-an-order-spec : {M : Type 1} → statement M
-not-an-order-spec = tie.close (tie.spec is-order-requires returns returns-2)
+not-an-order-spec = tie.close (tie.spec
+    (λ c κs. search needs)
+    returns
+    returns-2)

@@ -33,9 +33,6 @@ mul-if5 c = omega (arith, few _ _ (c .before .before .before .if1 .left) (c .bef
 returns-5 : tie.Need-returns-5
 returns-5 c = rw (le-ltb 32 _ (c .before .before .before .before .if1 .left), eq-eqb _ _ (c .before .before .before .if2 .left), eq-eqb _ _ (c .before .before .if3 .left), eq-eqb _ _ (c .before .if4 .left), ne-eqb _ _ (c .if5 .taken)) refl
 
-not-an-order-requires : tie.Need-not-an-order-requires
-not-an-order-requires c κs = search needs
-
 returns-6 : tie.Need-returns-6
 returns-6 c = rw (le-ltb 32 _ (c .before .before .before .before .before .if1 .left), eq-eqb _ _ (c .before .before .before .before .if2 .left), eq-eqb _ _ (c .before .before .before .if3 .left), eq-eqb _ _ (c .before .before .if4 .left), eq-eqb _ _ (c .before .if5 .left)) (c .not-an-order .ensures)
 
@@ -52,5 +49,5 @@ solve-spec =
     returns-4
     mul-if5
     returns-5
-    not-an-order-requires
+    (λ c κs. search needs)
     returns-6)

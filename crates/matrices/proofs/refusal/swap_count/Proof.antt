@@ -14,9 +14,6 @@ tested c = c .differs .ensures ∙ ap (λ (t : Bool). differ t (c .before .befor
 returns : tie.Need-returns
 returns c = rw (lt-ltb 32 _ (c .if1 .taken)) refl
 
-differs-requires : tie.Need-differs-requires
-differs-requires c κs = search needs
-
 returns-2 : tie.Need-returns-2
 returns-2 c = rw (le-ltb 32 _ (c .before .before .if1 .left)) (ap (λ (t : Bool). cond t 8 0) (sym (c .if2 .taken) ∙ tested (c .before)))
 
@@ -24,4 +21,8 @@ returns-3 : tie.Need-returns-3
 returns-3 c = rw (le-ltb 32 _ (c .before .before .if1 .left)) (ap (λ (t : Bool). cond t 8 0) (sym (c .if2 .left) ∙ tested (c .before)))
 
 pub swap-count-spec : {M : Type 1} → statement M
-swap-count-spec = tie.close (tie.spec returns differs-requires returns-2 returns-3)
+swap-count-spec = tie.close (tie.spec
+    returns
+    (λ c κs. search needs)
+    returns-2
+    returns-3)

@@ -11,17 +11,8 @@ full t b k count told taken e = e ∙ ap (λ (s : Bool). cond s count 7) (sym ta
 short : (t b : Bool) (count : ℕ) → b ≡ t → b ≡ false → 7 ≡ cond t count 7
 short t b count told left = ap (λ (s : Bool). cond s count 7) (sym left ∙ told)
 
-is-full-requires : tie.Need-is-full-requires
-is-full-requires c κs = search needs
-
-swap-count-requires : tie.Need-swap-count-requires
-swap-count-requires c κs = search needs
-
-returns : tie.Need-returns
-returns c = search (needs, full)
-
-returns-2 : tie.Need-returns-2
-returns-2 c = search (needs, short)
-
 pub walked-spec : {M : Type 1} → statement M
-walked-spec = tie.close (tie.spec is-full-requires swap-count-requires returns returns-2)
+walked-spec = tie.close (tie.spec
+    (λ c κs. search needs) (λ c κs. search needs)
+    (λ c. search (needs, full))
+    (λ c. search (needs, short)))

@@ -14,9 +14,6 @@ better-by : (x : Float) (k : ℕ) (b : Pivot) (size : Float) (t : Bool) → size
 unfolding better
 better-by x k b size t e h = rw (← e, h) refl
 
-abs-requires : tie.Need-abs-requires
-abs-requires c κs = search needs
-
 returns : tie.Need-returns
 returns c = better-by _ _ _ _ _ (c .before .before .abs .ensures) (c .if1 .taken)
 
@@ -24,4 +21,7 @@ returns-2 : tie.Need-returns-2
 returns-2 c = better-by _ _ _ _ _ (c .before .before .abs .ensures) (c .if1 .left)
 
 pub better-row-spec : {M : Type 1} → statement M
-better-row-spec = tie.close (tie.spec abs-requires returns returns-2)
+better-row-spec = tie.close (tie.spec
+    (λ c κs. search needs)
+    returns
+    returns-2)

@@ -16,19 +16,10 @@ use Rattle.matrices.proofs.rows.bring_pivot.Tie as tie
 row : (c : tie.After-find-pivot) → let s = c .before .before .before .before .args in (s .i ≤ c .find-pivot .result .row) × (c .find-pivot .result .row < s .n)
 row c = rw (c .find-pivot .ensures) (pivot-row reals _ _ _ (search needs))
 
-find-pivot-requires : tie.Need-find-pivot-requires
-find-pivot-requires c κs = search needs
-
-same-length : tie.Need-same-length
-same-length c = search needs
-
 returns : tie.Need-returns
 returns c =
     let s = c .before .before .before .before .before .args in
     (search needs, sym (bring-none zero (s .n * s .w) _ (s .i) (now (s .a)) (now (s .order)) (s .swaps) (c .if1 .taken)) ∙ ap (λ (b : Pivot). bring zero (s .n * s .w) b (s .i) (now (s .a)) (now (s .order)) (s .swaps)) (c .before .find-pivot .ensures))
-
-same-length-2 : tie.Need-same-length-2
-same-length-2 c = search needs
 
 returns-2 : tie.Need-returns-2
 returns-2 c =
@@ -49,15 +40,6 @@ exchange-requires c κs =
     let r = row (c .before .before .before .before .before .before .before) in
     (omega arith, omega arith)
 
-add-t14 : tie.Need-add-t14
-add-t14 c = search needs
-
-same-length-3 : tie.Need-same-length-3
-same-length-3 c = search needs
-
-same-length-4 : tie.Need-same-length-4
-same-length-4 c = search needs
-
 returns-3 : tie.Need-returns-3
 returns-3 c =
     let s = c .before .before .before .before .before .before .before .before .before .before .before .before .before .before .args in
@@ -72,15 +54,12 @@ pub bring-pivot-spec : {M : Type 1} → statement M
 bring-pivot-spec =
     tie.close
     (tie.spec
-    find-pivot-requires
-    same-length
+    (λ c κs. search needs) (λ c. search needs)
     returns
-    same-length-2
+    (λ c. search needs)
     returns-2
     mul-exchange-rows
     exchange-rows-requires
     exchange-requires
-    add-t14
-    same-length-3
-    same-length-4
+    (λ c. search needs) (λ c. search needs) (λ c. search needs)
     returns-3)

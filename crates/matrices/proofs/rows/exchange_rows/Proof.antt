@@ -23,57 +23,12 @@ Inv-loop k a₀ p q x y c₀ a c = (c ≤ k) × ((length a ≡ length a₀) × (
 abbrev μ-loop : tie.MeasureT-loop
 μ-loop k a₀ p q x y c₀ a c = k - c
 
-mul-x : tie.Need-mul-x Inv-loop μ-loop
-mul-x c = omega arith
-
-mul-y : tie.Need-mul-y Inv-loop μ-loop
-mul-y c = omega arith
-
 loop-holds : tie.Need-loop-holds Inv-loop μ-loop
 unfolding exchangeRows
 loop-holds c = (omega arith, (refl, refl))
 
-add-v : tie.Need-add-v Inv-loop μ-loop
-add-v c = omega arith
-
-mul-v : tie.Need-mul-v Inv-loop μ-loop
-mul-v c = omega arith
-
-slice-read-v : tie.Need-slice-read-v Inv-loop μ-loop
-slice-read-v c = omega arith
-
-add-a : tie.Need-add-a Inv-loop μ-loop
-add-a c = omega arith
-
-mul-a : tie.Need-mul-a Inv-loop μ-loop
-mul-a c = omega arith
-
-slice-read-a : tie.Need-slice-read-a Inv-loop μ-loop
-slice-read-a c = omega arith
-
-add-a-2 : tie.Need-add-a-2 Inv-loop μ-loop
-add-a-2 c = omega arith
-
-mul-a-2 : tie.Need-mul-a-2 Inv-loop μ-loop
-mul-a-2 c = omega arith
-
-slice-write-a : tie.Need-slice-write-a Inv-loop μ-loop
-slice-write-a c = omega arith
-
-add-a-3 : tie.Need-add-a-3 Inv-loop μ-loop
-add-a-3 c = omega arith
-
-mul-a-3 : tie.Need-mul-a-3 Inv-loop μ-loop
-mul-a-3 c = omega arith
-
 slice-write-a-2 : tie.Need-slice-write-a-2 Inv-loop μ-loop
 slice-write-a-2 c = simp length-set (omega arith)
-
-add-c : tie.Need-add-c Inv-loop μ-loop
-add-c c = omega arith
-
-loop-less : tie.Need-loop-less Inv-loop μ-loop
-loop-less c = omega arith
 
 loop-again : tie.Need-loop-again Inv-loop μ-loop
 loop-again c =
@@ -82,35 +37,19 @@ loop-again c =
     let h = c .before .before .loop-test .taken in
     (omega arith, (simp length-set (at .loop .inv .1 .0), upto-turn (at .loop .c) (s .k) _ (at .loop .a) _ h (exchanged (at .loop .a) (s .p * s .k + at .loop .c) (s .q * s .k + at .loop .c) (omega arith) (omega arith)) (at .loop .inv .1 .1)))
 
-same-length : tie.Need-same-length Inv-loop μ-loop
-same-length c = omega arith
-
 returns : tie.Need-returns Inv-loop μ-loop
 returns c = upto-end (c .before .loop .c) _ _ _ (c .loop-test .left) (c .before .loop .inv .1 .1)
 
 pub exchange-rows-spec : {M : Type 1} → statement M
 exchange-rows-spec =
     tie.close
-    (tie.spec
-    Inv-loop
-    μ-loop
-    mul-x
-    mul-y
+    (tie.spec Inv-loop μ-loop
+    (λ c. omega arith) (λ c. omega arith)
     loop-holds
-    add-v
-    mul-v
-    slice-read-v
-    add-a
-    mul-a
-    slice-read-a
-    add-a-2
-    mul-a-2
-    slice-write-a
-    add-a-3
-    mul-a-3
+    (λ c. omega arith) (λ c. omega arith) (λ c. omega arith) (λ c. omega arith) (λ c. omega arith) (λ c. omega arith)
+    (λ c. omega arith) (λ c. omega arith) (λ c. omega arith) (λ c. omega arith) (λ c. omega arith)
     slice-write-a-2
-    add-c
-    loop-less
+    (λ c. omega arith) (λ c. omega arith)
     loop-again
-    same-length
+    (λ c. omega arith)
     returns)

@@ -53,19 +53,10 @@ shared-slice-read-better-row c =
     let r = real-cell (s .args .w) (s .args .n) (now (s .args .a)) (at .loop .k) (s .args .i) (s .pre .0) (c .before .loop-test .taken) (s .pre .1) in
     omega arith
 
-better-row-requires : tie.Need-better-row-requires Inv-loop μ-loop
-better-row-requires c κs = search needs
-
 add-at-2 : tie.Need-add-at-2 Inv-loop μ-loop
 add-at-2 c =
     let at = c .before .before .before in
     let s = at .before .before in let f = walk (s .args .w) (s .args .n) (at .loop .k) (s .args .i) (s .pre .0 .small) (s .pre .0 .narrow) (omega arith) (omega arith) in omega arith
-
-add-k : tie.Need-add-k Inv-loop μ-loop
-add-k c = search needs
-
-loop-less : tie.Need-loop-less Inv-loop μ-loop
-loop-less c = search needs
 
 loop-again : tie.Need-loop-again Inv-loop μ-loop
 loop-again c =
@@ -83,9 +74,7 @@ returns c = upto-end (c .before .loop .k) _ _ _ (c .loop-test .left) (c .before 
 pub find-pivot-spec : {M : Type 1} → statement M
 find-pivot-spec =
     tie.close
-    (tie.spec
-    Inv-loop
-    μ-loop
+    (tie.spec Inv-loop μ-loop
     mul-row
     mul-at
     mul-at-2
@@ -93,9 +82,8 @@ find-pivot-spec =
     loop-holds
     mul-better-row
     shared-slice-read-better-row
-    better-row-requires
+    (λ c κs. search needs)
     add-at-2
-    add-k
-    loop-less
+    (λ c. search needs) (λ c. search needs)
     loop-again
     returns)

@@ -23,26 +23,8 @@ At c =
 at : (c : lts.After-inverse-root (inverse-root-reads.Asked, inverse-root-reads.Learnt) reads.Pre reads.Post) → At c
 at c = step-below _ _ _ _ _ (omega arith) (omega arith) (c .inverse-root .ensures) (omega arith) (omega arith)
 
-inverse-root-requires : tie.Need-inverse-root-requires
-inverse-root-requires c κs = search needs
-
-add-scaled : tie.Need-add-scaled
-add-scaled c = search needs
-
-mul-scaled : tie.Need-mul-scaled
-mul-scaled c = search needs
-
-add-scaled-2 : tie.Need-add-scaled-2
-add-scaled-2 c = search needs
-
 mul-scaled-2 : tie.Need-mul-scaled-2
 mul-scaled-2 c = let f = at c in omega arith
-
-mul-inverse : tie.Need-mul-inverse
-mul-inverse c = search needs
-
-sub-inverse : tie.Need-sub-inverse
-sub-inverse c = search needs
 
 mul-inverse-2 : tie.Need-mul-inverse-2
 mul-inverse-2 c = let f = at c in omega arith
@@ -62,24 +44,17 @@ mul-t11 c = let f = at c in omega arith
 mul-t10 : tie.Need-mul-t10
 mul-t10 c = let f = at c in omega arith
 
-returns : tie.Need-returns
-returns c = search needs
-
 pub guess-of-spec : {M : Type 1} → statement M
 guess-of-spec =
     tie.close
     (tie.spec
-    inverse-root-requires
-    add-scaled
-    mul-scaled
-    add-scaled-2
+    (λ c κs. search needs) (λ c. search needs) (λ c. search needs) (λ c. search needs)
     mul-scaled-2
-    mul-inverse
-    sub-inverse
+    (λ c. search needs) (λ c. search needs)
     mul-inverse-2
     mul-root
     mul-step
     sub-step
     mul-t11
     mul-t10
-    returns)
+    (λ c. search needs))

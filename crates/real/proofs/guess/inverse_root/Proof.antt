@@ -10,21 +10,6 @@ mul-square c = let p = polynomial (c .args .t) (c .pre) in omega arith
 mul-fourth : tie.Need-mul-fourth
 mul-fourth c = let p = polynomial (c .args .t) (c .pre) in omega arith
 
-mul-first : tie.Need-mul-first
-mul-first c = search needs
-
-sub-first : tie.Need-sub-first
-sub-first c = search needs
-
-mul-second : tie.Need-mul-second
-mul-second c = search needs
-
-sub-second : tie.Need-sub-second
-sub-second c = search needs
-
-sub-third : tie.Need-sub-third
-sub-third c = search needs
-
 mul-result : tie.Need-mul-result
 mul-result c = let p = polynomial (c .args .t) (c .pre) in omega arith
 
@@ -46,11 +31,7 @@ inverse-root-spec =
     (tie.spec
     mul-square
     mul-fourth
-    mul-first
-    sub-first
-    mul-second
-    sub-second
-    sub-third
+    (λ c. search needs) (λ c. search needs) (λ c. search needs) (λ c. search needs) (λ c. search needs)
     mul-result
     add-result
     mul-result-2

@@ -4,9 +4,6 @@ use Rattle.real.proofs.Patterns.{even-yes, even-no}
 use Rattle.real.proofs.root.even.Statement.{statement}
 use Rattle.real.proofs.root.even.Tie as tie
 
-mul-result : tie.Need-mul-result
-mul-result c = search needs
-
 returns : tie.Need-returns
 returns c = (omega arith, omega arith, even-yes (c .before .args .a) (c .before .args .e) (c .if1 .taken))
 
@@ -14,4 +11,7 @@ returns-2 : tie.Need-returns-2
 returns-2 c = (omega arith, omega arith, even-no (c .before .args .a) (c .before .args .e) (c .if1 .left))
 
 pub even-spec : {M : Type 1} → statement M
-even-spec = tie.close (tie.spec mul-result returns returns-2)
+even-spec = tie.close (tie.spec
+    (λ c. search needs)
+    returns
+    returns-2)

@@ -12,23 +12,8 @@ use Rattle.real.proofs.root.settled.Reads as settled-reads
 scaled : (c : lts.Else4 (settled-reads.Asked, settled-reads.Learnt) reads.Pre reads.Post) → let at = c .before .before .before .before .args in (at .a * 256 - at .s * at .s) * at .y ≤ 17163091967 * 1073741823
 scaled c = let at = c .before .before .before .before .args in product 17163091967 1073741823 (at .a * 256 - at .s * at .s) (at .y) (omega arith) (omega arith)
 
-returns : tie.Need-returns
-returns c = search needs
-
-returns-2 : tie.Need-returns-2
-returns-2 c = search needs
-
-mul-top : tie.Need-mul-top
-mul-top c = search needs
-
 mul-square : tie.Need-mul-square
 mul-square c = let s = c .before .before .args .s in omega (arith, product 2147483647 2147483647 s s (omega arith) (omega arith))
-
-returns-3 : tie.Need-returns-3
-returns-3 c = search needs
-
-returns-4 : tie.Need-returns-4
-returns-4 c = search needs
 
 mul-settled : tie.Need-mul-settled
 mul-settled c = omega (arith, scaled c)
@@ -46,12 +31,9 @@ pub last-step-spec : {M : Type 1} → statement M
 last-step-spec =
     tie.close
     (tie.spec
-    returns
-    returns-2
-    mul-top
+    (λ c. search needs) (λ c. search needs) (λ c. search needs)
     mul-square
-    returns-3
-    returns-4
+    (λ c. search needs) (λ c. search needs)
     mul-settled
     add-settled
     settled-requires

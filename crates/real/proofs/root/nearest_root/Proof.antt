@@ -4,15 +4,6 @@ use Rattle.real.proofs.Rounded.{nearest-short}
 use Rattle.real.proofs.root.nearest_root.Statement.{statement}
 use Rattle.real.proofs.root.nearest_root.Tie as tie
 
-last-step-requires : tie.Need-last-step-requires
-last-step-requires c κs = search needs
-
-rounded-root-requires : tie.Need-rounded-root-requires
-rounded-root-requires c κs = search needs
-
-returns : tie.Need-returns
-returns c = search needs
-
 returns-2 : tie.Need-returns-2
 returns-2 c =
     let at = c .before in
@@ -20,4 +11,6 @@ returns-2 c =
     (near .0, near .1, nearest-short (at .before .args .a) (at .last-step .result) (near .0) (at .before .pre .1))
 
 pub nearest-root-spec : {M : Type 1} → statement M
-nearest-root-spec = tie.close (tie.spec last-step-requires rounded-root-requires returns returns-2)
+nearest-root-spec = tie.close (tie.spec
+    (λ c κs. search needs) (λ c κs. search needs) (λ c. search needs)
+    returns-2)

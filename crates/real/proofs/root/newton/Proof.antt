@@ -12,9 +12,6 @@ Inv-loop a s₀ s = (a < (s + 1) * (s + 1)) × (s ≤ 2 ^ 28)
 abbrev μ-loop : tie.MeasureT-loop
 μ-loop a s₀ s = s
 
-add-s : tie.Need-add-s Inv-loop μ-loop
-add-s c = omega arith
-
 -- the first s is a step from MIDDLE
 loop-holds : tie.Need-loop-holds Inv-loop μ-loop
 loop-holds c = (newton-above (c .args .a) 94906266 (omega arith), omega arith)
@@ -44,4 +41,12 @@ returns c = (c .loop-test .left, c .before .loop .inv .0)
 pub newton-spec : {M : Type 1} → statement M
 newton-spec =
     tie.close
-    (tie.spec Inv-loop μ-loop add-s loop-holds mul-loop div-s add-s-2 loop-less loop-again returns)
+    (tie.spec Inv-loop μ-loop
+    (λ c. omega arith)
+    loop-holds
+    mul-loop
+    div-s
+    add-s-2
+    loop-less
+    loop-again
+    returns)

@@ -5,12 +5,6 @@ use Rattle.real.proofs.Rounded.{moves, stays, no-carry}
 use Rattle.real.proofs.root.rounded_root.Statement.{statement}
 use Rattle.real.proofs.root.rounded_root.Tie as tie
 
-whole-root-requires : tie.Need-whole-root-requires
-whole-root-requires c κs = search needs
-
-add-result : tie.Need-add-result
-add-result c = search needs
-
 returns : tie.Need-returns
 returns c =
     let at = c .before .before .before in
@@ -34,4 +28,7 @@ returns-2 c =
     (m .0, m .1, w .2)
 
 pub rounded-root-spec : {M : Type 1} → statement M
-rounded-root-spec = tie.close (tie.spec whole-root-requires add-result returns returns-2)
+rounded-root-spec = tie.close (tie.spec
+    (λ c κs. search needs) (λ c. search needs)
+    returns
+    returns-2)

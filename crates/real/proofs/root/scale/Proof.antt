@@ -24,15 +24,6 @@ shl-t9 c = omega (arith, moved c .1)
 sub-t7 : tie.Need-sub-t7
 sub-t7 c = omega (arith, moved c .1)
 
-cast-t10 : tie.Need-cast-t10
-cast-t10 c = search needs
-
-add-t11 : tie.Need-add-t11
-add-t11 c = search needs
-
-add-t12 : tie.Need-add-t12
-add-t12 c = search needs
-
 returns : tie.Need-returns
 returns c = scale-low (c .before .args .b) (c .before .pre .0) (c .if1 .taken)
 
@@ -41,4 +32,11 @@ returns-2 c = scale-high (c .before .args .b) (c .before .pre .1) (c .if1 .left)
 
 pub scale-spec : {M : Type 1} → statement M
 scale-spec =
-    tie.close (tie.spec sub-shift cast-t8 shl-t9 sub-t7 cast-t10 add-t11 add-t12 returns returns-2)
+    tie.close (tie.spec
+    sub-shift
+    cast-t8
+    shl-t9
+    sub-t7
+    (λ c. search needs) (λ c. search needs) (λ c. search needs)
+    returns
+    returns-2)

@@ -15,15 +15,6 @@ At c = let a = c .before .args .a in let s = c .newton .result in Halves a s (a 
 at : (c : lts.After-newton (newton-reads.Asked, newton-reads.Learnt) reads.Pre reads.Post) → At c
 at c = halves (c .before .args .a) (c .newton .result) (c .before .pre .0) (c .before .pre .1) (c .newton .ensures .0) (c .newton .ensures .1)
 
-newton-requires : tie.Need-newton-requires
-newton-requires c κs = search needs
-
-mul-left : tie.Need-mul-left
-mul-left c = search needs
-
-sub-left : tie.Need-sub-left
-sub-left c = search needs
-
 mul-left-2 : tie.Need-mul-left-2
 mul-left-2 c = let f = at c in omega arith
 
@@ -57,9 +48,6 @@ mul-t15 c = let f = at (c .before) in omega arith
 sub-t16 : tie.Need-sub-t16
 sub-t16 c = let f = at (c .before) in omega arith
 
-sub-t17 : tie.Need-sub-t17
-sub-t17 c = search needs
-
 sub-t18 : tie.Need-sub-t18
 sub-t18 c = let f = at (c .before) in omega arith
 
@@ -73,9 +61,7 @@ pub whole-root-spec : {M : Type 1} → statement M
 whole-root-spec =
     tie.close
     (tie.spec
-    newton-requires
-    mul-left
-    sub-left
+    (λ c κs. search needs) (λ c. search needs) (λ c. search needs)
     mul-left-2
     mul-twice
     div-q
@@ -87,7 +73,7 @@ whole-root-spec =
     sub-t14
     mul-t15
     sub-t16
-    sub-t17
+    (λ c. search needs)
     sub-t18
     returns
     returns-2)

@@ -24,26 +24,8 @@ returns c = sym (alike-lengths eqb 0 0 _ _ (c .if1 .taken))
 loop-holds : tie.Need-loop-holds Inv-loop μ-loop
 loop-holds c = (search needs, c .if1 .left, below-none _)
 
-mul-if2 : tie.Need-mul-if2 Inv-loop μ-loop
-mul-if2 c = search needs
-
-shared-slice-read-if2 : tie.Need-shared-slice-read-if2 Inv-loop μ-loop
-shared-slice-read-if2 c = search needs
-
-mul-if2-2 : tie.Need-mul-if2-2 Inv-loop μ-loop
-mul-if2-2 c = search needs
-
-shared-slice-read-if2-2 : tie.Need-shared-slice-read-if2-2 Inv-loop μ-loop
-shared-slice-read-if2-2 c = search needs
-
 returns-2 : tie.Need-returns-2 Inv-loop μ-loop
 returns-2 c = sym (alike-false eqb 0 0 _ _ (c .before .before .before .before .loop .i) (search needs) (search needs) (ne-eqb _ _ (c .if2 .taken)))
-
-add-i : tie.Need-add-i Inv-loop μ-loop
-add-i c = search needs
-
-loop-less : tie.Need-loop-less Inv-loop μ-loop
-loop-less c = search needs
 
 loop-again : tie.Need-loop-again Inv-loop μ-loop
 loop-again c = (search needs, search needs, below-more _ _ (c .before .before .before .before .loop .inv .2) (eq-eqb _ _ (c .if2 .left)))
@@ -54,17 +36,11 @@ returns-3 c = sym (alike-true eqb 0 0 _ _ (search needs) (λ k h. c .before .loo
 pub same-words-spec : {M : Type 1} → statement M
 same-words-spec =
     tie.close
-    (tie.spec
-    Inv-loop
-    μ-loop
+    (tie.spec Inv-loop μ-loop
     returns
     loop-holds
-    mul-if2
-    shared-slice-read-if2
-    mul-if2-2
-    shared-slice-read-if2-2
+    (λ c. search needs) (λ c. search needs) (λ c. search needs) (λ c. search needs)
     returns-2
-    add-i
-    loop-less
+    (λ c. search needs) (λ c. search needs)
     loop-again
     returns-3)

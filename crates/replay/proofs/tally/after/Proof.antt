@@ -7,12 +7,6 @@ use borrow.Author.Needs.{needs}
 use Rattle.replay.proofs.tally.after.Statement.{statement}
 use Rattle.replay.proofs.tally.after.Tie as tie
 
-counted-requires : tie.Need-counted-requires
-counted-requires c κs = search needs
-
-sub-t13 : tie.Need-sub-t13
-sub-t13 c = search needs
-
 returns : tie.Need-returns
 unfolding afterOf
 returns c = rw (c .before .before .if1 .taken, c .before .counted .ensures)
@@ -23,13 +17,15 @@ returns-2 c =
     let none : c .before .before .before .before .before .args .run .left - 1 ≡ 0 = omega arith in
     rw (c .before .before .if1 .taken, c .before .counted .ensures, none)
 
-counted-requires-2 : tie.Need-counted-requires-2
-counted-requires-2 c κs = search needs
-
 returns-3 : tie.Need-returns-3
 unfolding afterOf
 returns-3 c = simp (c .before .if1 .left, c .counted2 .ensures)
 
 pub after-spec : {M : Type 1} → statement M
 after-spec =
-    tie.close (tie.spec counted-requires sub-t13 returns returns-2 counted-requires-2 returns-3)
+    tie.close (tie.spec
+    (λ c κs. search needs) (λ c. search needs)
+    returns
+    returns-2
+    (λ c κs. search needs)
+    returns-3)

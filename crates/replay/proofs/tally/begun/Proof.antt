@@ -8,12 +8,12 @@ returns : tie.Need-returns
 unfolding begunOf
 returns c = simp (c .if1 .taken)
 
-counted-requires : tie.Need-counted-requires
-counted-requires c κs = search needs
-
 returns-2 : tie.Need-returns-2
 unfolding begunOf
 returns-2 c = simp (c .before .if1 .left, c .counted .ensures)
 
 pub begun-spec : {M : Type 1} → statement M
-begun-spec = tie.close (tie.spec returns counted-requires returns-2)
+begun-spec = tie.close (tie.spec
+    returns
+    (λ c κs. search needs)
+    returns-2)

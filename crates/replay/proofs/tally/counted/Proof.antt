@@ -4,19 +4,17 @@ use borrow.Author.Needs.{needs}
 use Rattle.replay.proofs.tally.counted.Statement.{statement}
 use Rattle.replay.proofs.tally.counted.Tie as tie
 
-one-more-requires : tie.Need-one-more-requires
-one-more-requires c κs = search needs
-
 returns : tie.Need-returns
 unfolding countedOf
 returns c = simp (c .before .one-more .ensures, c .if1 .taken)
-
-one-more-requires-2 : tie.Need-one-more-requires-2
-one-more-requires-2 c κs = search needs
 
 returns-2 : tie.Need-returns-2
 unfolding countedOf
 returns-2 c = simp (c .before .before .one-more .ensures, c .before .if1 .left, c .one-more2 .ensures)
 
 pub counted-spec : {M : Type 1} → statement M
-counted-spec = tie.close (tie.spec one-more-requires returns one-more-requires-2 returns-2)
+counted-spec = tie.close (tie.spec
+    (λ c κs. search needs)
+    returns
+    (λ c κs. search needs)
+    returns-2)

@@ -5,20 +5,8 @@ use Rattle.replay_lu.proofs.over.inverse.Statement.{statement}
 use Rattle.replay_lu.proofs.over.inverse.Tie as tie
 use Rattle.hyperdual_lu.proofs.inverse.Reads as inverse-reads′
 
-inverse-requires : tie.Need-inverse-requires
-inverse-requires c κs = search needs
-
-inverse-requires-2 : tie.Need-inverse-requires-2
-inverse-requires-2 c κs = search needs
-
-same-length : tie.Need-same-length
-same-length c = search needs
-
 returns : tie.Need-returns
 returns c = rw (eq-eqb _ _ (c .before .before .before .before .if1 .taken)) (c .before .before .inverse .ensures)
-
-same-length-2 : tie.Need-same-length-2
-same-length-2 c = search needs
 
 returns-2 : tie.Need-returns-2
 returns-2 c = rw (ne-eqb _ _ (c .before .before .before .before .if1 .left)) (c .before .before .inverse2 .ensures)
@@ -26,4 +14,8 @@ returns-2 c = rw (ne-eqb _ _ (c .before .before .before .before .if1 .left)) (c 
 pub inverse-spec : {M : Type 1} → statement M
 inverse-spec =
     tie.close
-    (tie.spec inverse-requires inverse-requires-2 same-length returns same-length-2 returns-2)
+    (tie.spec
+    (λ c κs. search needs) (λ c κs. search needs) (λ c. search needs)
+    returns
+    (λ c. search needs)
+    returns-2)

@@ -5,18 +5,6 @@ use Rattle.replay_lu.proofs.over.same_determinant.Statement.{statement}
 use Rattle.replay_lu.proofs.over.same_determinant.Tie as tie
 use Rattle.hyperdual_lu.proofs.determinant.Reads as determinant-reads′
 
-determinant-requires : tie.Need-determinant-requires
-determinant-requires c κs = search needs
-
-same-dual-requires : tie.Need-same-dual-requires
-same-dual-requires c κs = search needs
-
-determinant-requires-2 : tie.Need-determinant-requires-2
-determinant-requires-2 c κs = search needs
-
-same-hyperdual-requires : tie.Need-same-hyperdual-requires
-same-hyperdual-requires c κs = search needs
-
 returns : tie.Need-returns
 returns c = rw (eq-eqb _ _ (c .before .before .if1 .taken), ← c .before .determinant .ensures) (c .same-dual .ensures)
 
@@ -27,9 +15,6 @@ pub same-determinant-spec : {M : Type 1} → statement M
 same-determinant-spec =
     tie.close
     (tie.spec
-    determinant-requires
-    same-dual-requires
-    determinant-requires-2
-    same-hyperdual-requires
+    (λ c κs. search needs) (λ c κs. search needs) (λ c κs. search needs) (λ c κs. search needs)
     returns
     returns-2)

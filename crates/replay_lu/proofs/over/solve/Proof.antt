@@ -5,20 +5,8 @@ use Rattle.replay_lu.proofs.over.solve.Statement.{statement}
 use Rattle.replay_lu.proofs.over.solve.Tie as tie
 use Rattle.hyperdual_lu.proofs.solve.Reads as solve-reads′
 
-solve-requires : tie.Need-solve-requires
-solve-requires c κs = search needs
-
-solve-requires-2 : tie.Need-solve-requires-2
-solve-requires-2 c κs = search needs
-
-same-length : tie.Need-same-length
-same-length c = search needs
-
 returns : tie.Need-returns
 returns c = rw (eq-eqb _ _ (c .before .before .before .before .if1 .taken)) (c .before .before .solve .ensures)
-
-same-length-2 : tie.Need-same-length-2
-same-length-2 c = search needs
 
 returns-2 : tie.Need-returns-2
 returns-2 c = rw (ne-eqb _ _ (c .before .before .before .before .if1 .left)) (c .before .before .solve2 .ensures)
@@ -26,4 +14,8 @@ returns-2 c = rw (ne-eqb _ _ (c .before .before .before .before .if1 .left)) (c 
 pub solve-spec : {M : Type 1} → statement M
 solve-spec =
     tie.close
-    (tie.spec solve-requires solve-requires-2 same-length returns same-length-2 returns-2)
+    (tie.spec
+    (λ c κs. search needs) (λ c κs. search needs) (λ c. search needs)
+    returns
+    (λ c. search needs)
+    returns-2)

@@ -5,96 +5,6 @@ use borrow.Author.Needs.{needs}
 use Rattle.replay_methods.proofs.of_hyperdual.same_method.Statement.{statement}
 use Rattle.replay_methods.proofs.of_hyperdual.same_method.Tie as tie
 
-zero-requires : tie.Need-zero-requires
-zero-requires c κs = search needs
-
-same-record-requires : tie.Need-same-record-requires
-same-record-requires c κs = search needs
-
-one-requires : tie.Need-one-requires
-one-requires c κs = search needs
-
-same-record-requires-2 : tie.Need-same-record-requires-2
-same-record-requires-2 c κs = search needs
-
-scale-requires : tie.Need-scale-requires
-scale-requires c κs = search needs
-
-same-record-requires-3 : tie.Need-same-record-requires-3
-same-record-requires-3 c κs = search needs
-
-recip-requires : tie.Need-recip-requires
-recip-requires c κs = search needs
-
-same-record-requires-4 : tie.Need-same-record-requires-4
-same-record-requires-4 c κs = search needs
-
-inv-requires : tie.Need-inv-requires
-inv-requires c κs = search needs
-
-same-record-requires-5 : tie.Need-same-record-requires-5
-same-record-requires-5 c κs = search needs
-
-sqrt-requires : tie.Need-sqrt-requires
-sqrt-requires c κs = search needs
-
-same-record-requires-6 : tie.Need-same-record-requires-6
-same-record-requires-6 c κs = search needs
-
-eq-requires : tie.Need-eq-requires
-eq-requires c κs = search needs
-
-same-truth-requires : tie.Need-same-truth-requires
-same-truth-requires c κs = search needs
-
-lt-requires : tie.Need-lt-requires
-lt-requires c κs = search needs
-
-same-truth-requires-2 : tie.Need-same-truth-requires-2
-same-truth-requires-2 c κs = search needs
-
-le-requires : tie.Need-le-requires
-le-requires c κs = search needs
-
-same-truth-requires-3 : tie.Need-same-truth-requires-3
-same-truth-requires-3 c κs = search needs
-
-gt-requires : tie.Need-gt-requires
-gt-requires c κs = search needs
-
-same-truth-requires-4 : tie.Need-same-truth-requires-4
-same-truth-requires-4 c κs = search needs
-
-ge-requires : tie.Need-ge-requires
-ge-requires c κs = search needs
-
-same-truth-requires-5 : tie.Need-same-truth-requires-5
-same-truth-requires-5 c κs = search needs
-
-is-negative-requires : tie.Need-is-negative-requires
-is-negative-requires c κs = search needs
-
-same-truth-requires-6 : tie.Need-same-truth-requires-6
-same-truth-requires-6 c κs = search needs
-
-is-positive-requires : tie.Need-is-positive-requires
-is-positive-requires c κs = search needs
-
-same-truth-requires-7 : tie.Need-same-truth-requires-7
-same-truth-requires-7 c κs = search needs
-
-is-zero-requires : tie.Need-is-zero-requires
-is-zero-requires c κs = search needs
-
-same-truth-requires-8 : tie.Need-same-truth-requires-8
-same-truth-requires-8 c κs = search needs
-
-is-one-requires : tie.Need-is-one-requires
-is-one-requires c κs = search needs
-
-same-truth-requires-9 : tie.Need-same-truth-requires-9
-same-truth-requires-9 c κs = search needs
-
 returns : tie.Need-returns
 unfolding sameMethod
 returns c = rw (c .before .before .match .keys1) (rw (c .before .zero .ensures) at (c .same-record .ensures))
@@ -163,36 +73,12 @@ pub same-method-spec : {M : Type 1} → statement M
 same-method-spec =
     tie.close
     (tie.spec
-    zero-requires
-    same-record-requires
-    one-requires
-    same-record-requires-2
-    scale-requires
-    same-record-requires-3
-    recip-requires
-    same-record-requires-4
-    inv-requires
-    same-record-requires-5
-    sqrt-requires
-    same-record-requires-6
-    eq-requires
-    same-truth-requires
-    lt-requires
-    same-truth-requires-2
-    le-requires
-    same-truth-requires-3
-    gt-requires
-    same-truth-requires-4
-    ge-requires
-    same-truth-requires-5
-    is-negative-requires
-    same-truth-requires-6
-    is-positive-requires
-    same-truth-requires-7
-    is-zero-requires
-    same-truth-requires-8
-    is-one-requires
-    same-truth-requires-9
+    (λ c κs. search needs) (λ c κs. search needs) (λ c κs. search needs) (λ c κs. search needs) (λ c κs. search needs)
+    (λ c κs. search needs) (λ c κs. search needs) (λ c κs. search needs) (λ c κs. search needs) (λ c κs. search needs)
+    (λ c κs. search needs) (λ c κs. search needs) (λ c κs. search needs) (λ c κs. search needs) (λ c κs. search needs)
+    (λ c κs. search needs) (λ c κs. search needs) (λ c κs. search needs) (λ c κs. search needs) (λ c κs. search needs)
+    (λ c κs. search needs) (λ c κs. search needs) (λ c κs. search needs) (λ c κs. search needs) (λ c κs. search needs)
+    (λ c κs. search needs) (λ c κs. search needs) (λ c κs. search needs) (λ c κs. search needs) (λ c κs. search needs)
     returns
     returns-2
     returns-3

@@ -15,72 +15,21 @@ use Rattle.replay_records.proofs.answers.answer.Tie as tie
 as-truth : (number : ℕ) (out : List ℕ) (t : ℕ) (called : ℕ × List ℕ) → (number, out) ≡ called → t ≡ truthOf (getD out 0 0) → _≡_ {A = ℕ × List ℕ} (number, set out 0 t) (called .0, set (called .1) 0 (truthOf (getD (called .1) 0 0)))
 as-truth number out t called e h = rw (← e, h)
 
-nderiv-requires : tie.Need-nderiv-requires
-nderiv-requires c κs = search needs
-
-slice-write-out : tie.Need-slice-write-out
-slice-write-out c = search needs
-
-same-length : tie.Need-same-length
-same-length c = search needs
-
 returns : tie.Need-returns
 unfolding answerOf
 returns c = rw (eq-eqb _ _ (c .before .if1 .taken), c .nderiv .ensures)
-
-joined-requires : tie.Need-joined-requires
-joined-requires c κs = search needs
-
-same-length-2 : tie.Need-same-length-2
-same-length-2 c = search needs
-
-same-length-3 : tie.Need-same-length-3
-same-length-3 c = search needs
-
-same-length-4 : tie.Need-same-length-4
-same-length-4 c = search needs
 
 returns-2 : tie.Need-returns-2
 unfolding answerOf
 returns-2 c = rw (ne-eqb _ _ (c .before .before .before .before .before .before .before .before .before .before .before .if1 .left), eq-eqb _ _ (c .before .before .before .before .before .before .before .before .before .before .if2 .taken)) (c .before .before .before .before .before .before .joined .ensures)
 
-joined-requires-2 : tie.Need-joined-requires-2
-joined-requires-2 c κs = search needs
-
-same-length-5 : tie.Need-same-length-5
-same-length-5 c = search needs
-
-same-length-6 : tie.Need-same-length-6
-same-length-6 c = search needs
-
-same-length-7 : tie.Need-same-length-7
-same-length-7 c = search needs
-
 returns-3 : tie.Need-returns-3
 unfolding answerOf
 returns-3 c = rw (ne-eqb _ _ (c .before .before .before .before .before .before .before .before .before .before .before .before .if1 .left), ne-eqb _ _ (c .before .before .before .before .before .before .before .before .before .before .before .if2 .left), eq-eqb _ _ (c .before .before .before .before .before .before .before .before .before .before .if3 .taken)) (c .before .before .before .before .before .before .joined2 .ensures)
 
-call-requires : tie.Need-call-requires
-call-requires c κs = search needs
-
-same-length-8 : tie.Need-same-length-8
-same-length-8 c = search needs
-
 returns-4 : tie.Need-returns-4
 unfolding answerOf
 returns-4 c = rw (ne-eqb _ _ (c .before .before .before .before .before .before .before .if1 .left), ne-eqb _ _ (c .before .before .before .before .before .before .if2 .left), ne-eqb _ _ (c .before .before .before .before .before .if3 .left), lt-ltb _ _ (c .if4 .taken)) (rw (toZ-ofZ w32 (c .before .before .before .before .before .before .before .before .before .before .before .before .before .args .exponent) (search needs)) at (c .before .before .before .call .ensures))
-
-slice-read-truth : tie.Need-slice-read-truth
-slice-read-truth c = search needs
-
-truth-requires : tie.Need-truth-requires
-truth-requires c κs = search needs
-
-slice-write-out-2 : tie.Need-slice-write-out-2
-slice-write-out-2 c = search needs
-
-same-length-9 : tie.Need-same-length-9
-same-length-9 c = search needs
 
 returns-5 : tie.Need-returns-5
 unfolding answerOf
@@ -90,25 +39,13 @@ pub answer-spec : {M : Type 1} → statement M
 answer-spec =
     tie.close
     (tie.spec
-    nderiv-requires
-    slice-write-out
-    same-length
+    (λ c κs. search needs) (λ c. search needs) (λ c. search needs)
     returns
-    joined-requires
-    same-length-2
-    same-length-3
-    same-length-4
+    (λ c κs. search needs) (λ c. search needs) (λ c. search needs) (λ c. search needs)
     returns-2
-    joined-requires-2
-    same-length-5
-    same-length-6
-    same-length-7
+    (λ c κs. search needs) (λ c. search needs) (λ c. search needs) (λ c. search needs)
     returns-3
-    call-requires
-    same-length-8
+    (λ c κs. search needs) (λ c. search needs)
     returns-4
-    slice-read-truth
-    truth-requires
-    slice-write-out-2
-    same-length-9
+    (λ c. search needs) (λ c κs. search needs) (λ c. search needs) (λ c. search needs)
     returns-5)

@@ -13,42 +13,9 @@ use Rattle.replay_records.proofs.answers.joined.Tie as tie
 in-words : (number : ℕ) (out : List ℕ) (left : List Float) (given : ℕ × List Float) → (number, left) ≡ given → out ≡ wordsOf left → _≡_ {A = ℕ × List ℕ} (number, out) (given .0, wordsOf (given .1))
 in-words number out left given e h = rw (← e, h)
 
-floats-of-requires : tie.Need-floats-of-requires
-floats-of-requires c κs = search needs
-
-sum-requires : tie.Need-sum-requires
-sum-requires c κs = search needs
-
-put-requires : tie.Need-put-requires
-put-requires c κs = search needs
-
-same-length : tie.Need-same-length
-same-length c = search needs
-
-same-length-2 : tie.Need-same-length-2
-same-length-2 c = search needs
-
-same-length-3 : tie.Need-same-length-3
-same-length-3 c = search needs
-
 returns : tie.Need-returns
 unfolding joinedOf
 returns c = rw (eq-eqb _ _ (c .before .before .before .before .before .before .before .before .before .before .if1 .taken)) (in-words _ _ _ _ (rw (c .before .before .before .before .before .before .before .before .before .before .before .before .before .floats-of .ensures) at (c .before .before .before .before .before .before .before .sum .ensures)) (c .before .before .put .ensures))
-
-product-requires : tie.Need-product-requires
-product-requires c κs = search needs
-
-put-requires-2 : tie.Need-put-requires-2
-put-requires-2 c κs = search needs
-
-same-length-4 : tie.Need-same-length-4
-same-length-4 c = search needs
-
-same-length-5 : tie.Need-same-length-5
-same-length-5 c = search needs
-
-same-length-6 : tie.Need-same-length-6
-same-length-6 c = search needs
 
 returns-2 : tie.Need-returns-2
 unfolding joinedOf
@@ -58,16 +25,8 @@ pub joined-spec : {M : Type 1} → statement M
 joined-spec =
     tie.close
     (tie.spec
-    floats-of-requires
-    sum-requires
-    put-requires
-    same-length
-    same-length-2
-    same-length-3
+    (λ c κs. search needs) (λ c κs. search needs) (λ c κs. search needs) (λ c. search needs) (λ c. search needs)
+    (λ c. search needs)
     returns
-    product-requires
-    put-requires-2
-    same-length-4
-    same-length-5
-    same-length-6
+    (λ c κs. search needs) (λ c κs. search needs) (λ c. search needs) (λ c. search needs) (λ c. search needs)
     returns-2)

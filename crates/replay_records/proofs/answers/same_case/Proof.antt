@@ -4,12 +4,6 @@ use borrow.Author.Needs.{needs}
 use Rattle.replay_records.proofs.answers.same_case.Statement.{statement}
 use Rattle.replay_records.proofs.answers.same_case.Tie as tie
 
-same-answer-requires : tie.Need-same-answer-requires
-same-answer-requires c κs = search needs
-
-same-method-requires : tie.Need-same-method-requires
-same-method-requires c κs = search needs
-
 returns : tie.Need-returns
 returns c = rw (sym (c .before .before .same-answer .ensures) ∙ c .before .if1 .taken) (c .same-method .ensures)
 
@@ -17,4 +11,7 @@ returns-2 : tie.Need-returns-2
 returns-2 c = rw (sym (c .before .same-answer .ensures) ∙ c .if1 .left)
 
 pub same-case-spec : {M : Type 1} → statement M
-same-case-spec = tie.close (tie.spec same-answer-requires same-method-requires returns returns-2)
+same-case-spec = tie.close (tie.spec
+    (λ c κs. search needs) (λ c κs. search needs)
+    returns
+    returns-2)

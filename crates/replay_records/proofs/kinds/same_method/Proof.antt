@@ -3,36 +3,6 @@ use borrow.Author.Needs.{needs}
 use Rattle.replay_records.proofs.kinds.same_method.Statement.{statement}
 use Rattle.replay_records.proofs.kinds.same_method.Tie as tie
 
-enum-told : tie.Need-enum-told
-enum-told c = search needs
-
-same-requires : tie.Need-same-requires
-same-requires c κs = search needs
-
-enum-told-2 : tie.Need-enum-told-2
-enum-told-2 c = search needs
-
-same-requires-2 : tie.Need-same-requires-2
-same-requires-2 c κs = search needs
-
-enum-told-3 : tie.Need-enum-told-3
-enum-told-3 c = search needs
-
-same-requires-3 : tie.Need-same-requires-3
-same-requires-3 c κs = search needs
-
-enum-told-4 : tie.Need-enum-told-4
-enum-told-4 c = search needs
-
-same-requires-4 : tie.Need-same-requires-4
-same-requires-4 c κs = search needs
-
-enum-told-5 : tie.Need-enum-told-5
-enum-told-5 c = search needs
-
-same-requires-5 : tie.Need-same-requires-5
-same-requires-5 c κs = search needs
-
 returns : tie.Need-returns
 returns c = rw (c .before .enum-told .given .1) (c .same .ensures)
 
@@ -52,16 +22,8 @@ pub same-method-spec : {M : Type 1} → statement M
 same-method-spec =
     tie.close
     (tie.spec
-    enum-told
-    same-requires
-    enum-told-2
-    same-requires-2
-    enum-told-3
-    same-requires-3
-    enum-told-4
-    same-requires-4
-    enum-told-5
-    same-requires-5
+    (λ c. search needs) (λ c κs. search needs) (λ c. search needs) (λ c κs. search needs) (λ c. search needs)
+    (λ c κs. search needs) (λ c. search needs) (λ c κs. search needs) (λ c. search needs) (λ c κs. search needs)
     returns
     returns-2
     returns-3

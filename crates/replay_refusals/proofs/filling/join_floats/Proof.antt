@@ -19,24 +19,6 @@ abbrev μ-loop : tie.MeasureT-loop
 loop-holds : tie.Need-loop-holds Inv-loop μ-loop
 loop-holds c = (search needs, refl)
 
-mul-word-of-float : tie.Need-mul-word-of-float Inv-loop μ-loop
-mul-word-of-float c = search needs
-
-shared-slice-read-word-of-float : tie.Need-shared-slice-read-word-of-float Inv-loop μ-loop
-shared-slice-read-word-of-float c = search needs
-
-word-of-float-requires : tie.Need-word-of-float-requires Inv-loop μ-loop
-word-of-float-requires c κs = search needs
-
-join-requires : tie.Need-join-requires Inv-loop μ-loop
-join-requires c κs = search needs
-
-add-i : tie.Need-add-i Inv-loop μ-loop
-add-i c = search needs
-
-loop-less : tie.Need-loop-less Inv-loop μ-loop
-loop-less c = search needs
-
 loop-again : tie.Need-loop-again Inv-loop μ-loop
 loop-again c =
     let at = c .before .before .before .before in
@@ -48,15 +30,9 @@ returns c = join-end (toBits binary64) _ (c .before .loop .i) _ _ (omega arith) 
 pub join-floats-spec : {M : Type 1} → statement M
 join-floats-spec =
     tie.close
-    (tie.spec
-    Inv-loop
-    μ-loop
+    (tie.spec Inv-loop μ-loop
     loop-holds
-    mul-word-of-float
-    shared-slice-read-word-of-float
-    word-of-float-requires
-    join-requires
-    add-i
-    loop-less
+    (λ c. search needs) (λ c. search needs) (λ c κs. search needs) (λ c κs. search needs) (λ c. search needs)
+    (λ c. search needs)
     loop-again
     returns)

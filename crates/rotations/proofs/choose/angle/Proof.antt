@@ -5,19 +5,12 @@ use borrow.Author.Needs.{needs}
 use Rattle.rotations.proofs.choose.angle.Statement.{statement}
 use Rattle.rotations.proofs.choose.angle.Tie as tie
 
-sub-requires : tie.Need-sub-requires
-sub-requires c κs = search needs
-
-rotation-tangent-requires : tie.Need-rotation-tangent-requires
-rotation-tangent-requires c κs = search needs
-
-angle-by-requires : tie.Need-angle-by-requires
-angle-by-requires c κs = search needs
-
 returns : tie.Need-returns
 returns c =
     let x = c .before .before .before .args .x in
     c .angle-by .ensures ∙ ap (angleBy dualAlgebra x) (c .before .rotation-tangent .ensures ∙ ap (rotationTangent dualAlgebra x) (c .before .before .sub .ensures))
 
 pub angle-spec : {M : Type 1} → statement M
-angle-spec = tie.close (tie.spec sub-requires rotation-tangent-requires angle-by-requires returns)
+angle-spec = tie.close (tie.spec
+    (λ c κs. search needs) (λ c κs. search needs) (λ c κs. search needs)
+    returns)

@@ -9,24 +9,6 @@ use borrow.Author.Needs.{needs}
 use Rattle.rotations.proofs.choose.angle_by.Statement.{statement}
 use Rattle.rotations.proofs.choose.angle_by.Tie as tie
 
-hypotenuse-requires : tie.Need-hypotenuse-requires
-hypotenuse-requires c κs = search needs
-
-recip-requires : tie.Need-recip-requires
-recip-requires c κs = search needs
-
-mul-requires : tie.Need-mul-requires
-mul-requires c κs = search needs
-
-add-float-requires : tie.Need-add-float-requires
-add-float-requires c κs = search needs
-
-div-requires : tie.Need-div-requires
-div-requires c κs = search needs
-
-mul-requires-2 : tie.Need-mul-requires-2
-mul-requires-2 c κs = search needs
-
 returns : tie.Need-returns
 unfolding angleBy
 returns c =
@@ -40,10 +22,6 @@ pub angle-by-spec : {M : Type 1} → statement M
 angle-by-spec =
     tie.close
     (tie.spec
-    hypotenuse-requires
-    recip-requires
-    mul-requires
-    add-float-requires
-    div-requires
-    mul-requires-2
+    (λ c κs. search needs) (λ c κs. search needs) (λ c κs. search needs) (λ c κs. search needs) (λ c κs. search needs)
+    (λ c κs. search needs)
     returns)

@@ -6,14 +6,10 @@ use borrow.Author.Needs.{needs}
 use Rattle.rotations.proofs.choose.gap.Statement.{statement}
 use Rattle.rotations.proofs.choose.gap.Tie as tie
 
-abs-requires : tie.Need-abs-requires
-abs-requires c κs = search needs
-
-mul-float-requires : tie.Need-mul-float-requires
-mul-float-requires c κs = search needs
-
 returns : tie.Need-returns
 returns c = c .mul-float .ensures ∙ ap (λ (y : Dual). dualMulFloat y ten) (c .before .abs .ensures)
 
 pub gap-spec : {M : Type 1} → statement M
-gap-spec = tie.close (tie.spec abs-requires mul-float-requires returns)
+gap-spec = tie.close (tie.spec
+    (λ c κs. search needs) (λ c κs. search needs)
+    returns)

@@ -9,18 +9,11 @@ use borrow.Author.Needs.{needs}
 use Rattle.rotations.proofs.choose.hypotenuse.Statement.{statement}
 use Rattle.rotations.proofs.choose.hypotenuse.Tie as tie
 
-mul-requires : tie.Need-mul-requires
-mul-requires c κs = search needs
-
-add-float-requires : tie.Need-add-float-requires
-add-float-requires c κs = search needs
-
-sqrt-requires : tie.Need-sqrt-requires
-sqrt-requires c κs = search needs
-
 returns : tie.Need-returns
 unfolding hypotenuseOf
 returns c = c .sqrt .ensures ∙ ap (sqrtOf dualAlgebra) (c .before .add-float .ensures ∙ ap (λ (y : Dual). addFloat dualAlgebra y one) (c .before .before .mul .ensures))
 
 pub hypotenuse-spec : {M : Type 1} → statement M
-hypotenuse-spec = tie.close (tie.spec mul-requires add-float-requires sqrt-requires returns)
+hypotenuse-spec = tie.close (tie.spec
+    (λ c κs. search needs) (λ c κs. search needs) (λ c κs. search needs)
+    returns)

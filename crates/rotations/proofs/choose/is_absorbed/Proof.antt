@@ -6,15 +6,6 @@ use borrow.Author.Needs.{needs}
 use Rattle.rotations.proofs.choose.is_absorbed.Statement.{statement}
 use Rattle.rotations.proofs.choose.is_absorbed.Tie as tie
 
-abs-requires : tie.Need-abs-requires
-abs-requires c κs = search needs
-
-add-requires : tie.Need-add-requires
-add-requires c κs = search needs
-
-eq-requires : tie.Need-eq-requires
-eq-requires c κs = search needs
-
 returns : tie.Need-returns
 unfolding absorbed
 returns c =
@@ -23,4 +14,6 @@ returns c =
     c .eq .ensures ∙ (λ i. eq (sum i .re) (size i .re))
 
 pub is-absorbed-spec : {M : Type 1} → statement M
-is-absorbed-spec = tie.close (tie.spec abs-requires add-requires eq-requires returns)
+is-absorbed-spec = tie.close (tie.spec
+    (λ c κs. search needs) (λ c κs. search needs) (λ c κs. search needs)
+    returns)

@@ -4,15 +4,6 @@ use borrow.Author.Needs.{needs}
 use Rattle.rotations.proofs.choose.is_cleared.Statement.{statement}
 use Rattle.rotations.proofs.choose.is_cleared.Tie as tie
 
-gap-requires : tie.Need-gap-requires
-gap-requires c κs = search needs
-
-is-absorbed-requires : tie.Need-is-absorbed-requires
-is-absorbed-requires c κs = search needs
-
-is-absorbed-requires-2 : tie.Need-is-absorbed-requires-2
-is-absorbed-requires-2 c κs = search needs
-
 returns : tie.Need-returns
 returns c = cleared-both dualAlgebra _ _ _ _ _ _ _ (c .before .before .before .if1 .taken) (c .before .before .before .before .gap .ensures) (c .before .before .is-absorbed .ensures) (c .before .if2 .taken) (c .is-absorbed2 .ensures)
 
@@ -25,4 +16,8 @@ returns-3 c = cleared-early dualAlgebra _ _ _ _ (c .if1 .left)
 pub is-cleared-spec : {M : Type 1} → statement M
 is-cleared-spec =
     tie.close
-    (tie.spec gap-requires is-absorbed-requires is-absorbed-requires-2 returns returns-2 returns-3)
+    (tie.spec
+    (λ c κs. search needs) (λ c κs. search needs) (λ c κs. search needs)
+    returns
+    returns-2
+    returns-3)

@@ -7,32 +7,8 @@ use borrow.Author.Needs.{needs}
 use Rattle.rotations.proofs.choose.rotation_tangent.Statement.{statement}
 use Rattle.rotations.proofs.choose.rotation_tangent.Tie as tie
 
-abs-requires : tie.Need-abs-requires
-abs-requires c κs = search needs
-
-gap-requires : tie.Need-gap-requires
-gap-requires c κs = search needs
-
-add-requires : tie.Need-add-requires
-add-requires c κs = search needs
-
-eq-requires : tie.Need-eq-requires
-eq-requires c κs = search needs
-
-div-requires : tie.Need-div-requires
-div-requires c κs = search needs
-
 returns : tie.Need-returns
 returns c = c .div .ensures ∙ tangent-small dualAlgebra _ _ _ _ _ _ (c .before .before .before .before .before .abs .ensures) (c .before .before .before .before .gap .ensures) (c .before .before .before .add .ensures) (c .before .before .eq .ensures) (c .before .if1 .taken)
-
-mul-float-requires : tie.Need-mul-float-requires
-mul-float-requires c κs = search needs
-
-div-requires-2 : tie.Need-div-requires-2
-div-requires-2 c κs = search needs
-
-tangent-requires : tie.Need-tangent-requires
-tangent-requires c κs = search needs
 
 returns-2 : tie.Need-returns-2
 returns-2 c =
@@ -44,13 +20,7 @@ pub rotation-tangent-spec : {M : Type 1} → statement M
 rotation-tangent-spec =
     tie.close
     (tie.spec
-    abs-requires
-    gap-requires
-    add-requires
-    eq-requires
-    div-requires
+    (λ c κs. search needs) (λ c κs. search needs) (λ c κs. search needs) (λ c κs. search needs) (λ c κs. search needs)
     returns
-    mul-float-requires
-    div-requires-2
-    tangent-requires
+    (λ c κs. search needs) (λ c κs. search needs) (λ c κs. search needs)
     returns-2)

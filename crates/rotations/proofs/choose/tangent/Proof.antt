@@ -6,24 +6,6 @@ use borrow.Author.Needs.{needs}
 use Rattle.rotations.proofs.choose.tangent.Statement.{statement}
 use Rattle.rotations.proofs.choose.tangent.Tie as tie
 
-abs-requires : tie.Need-abs-requires
-abs-requires c κs = search needs
-
-hypotenuse-requires : tie.Need-hypotenuse-requires
-hypotenuse-requires c κs = search needs
-
-add-requires : tie.Need-add-requires
-add-requires c κs = search needs
-
-recip-requires : tie.Need-recip-requires
-recip-requires c κs = search needs
-
-is-negative-requires : tie.Need-is-negative-requires
-is-negative-requires c κs = search needs
-
-neg-requires : tie.Need-neg-requires
-neg-requires c κs = search needs
-
 returns : tie.Need-returns
 returns c = c .neg .ensures ∙ tangent-negated dualAlgebra _ _ (c .before .before .before .recip .ensures ∙ ap (recipOf dualAlgebra) (c .before .before .before .before .add .ensures ∙ (λ i. dualAdd (c .before .before .before .before .before .before .abs .ensures i) (c .before .before .before .before .before .hypotenuse .ensures i)))) _ (c .before .before .is-negative .ensures) (c .before .if1 .taken)
 
@@ -34,11 +16,7 @@ pub tangent-spec : {M : Type 1} → statement M
 tangent-spec =
     tie.close
     (tie.spec
-    abs-requires
-    hypotenuse-requires
-    add-requires
-    recip-requires
-    is-negative-requires
-    neg-requires
+    (λ c κs. search needs) (λ c κs. search needs) (λ c κs. search needs) (λ c κs. search needs) (λ c κs. search needs)
+    (λ c κs. search needs)
     returns
     returns-2)

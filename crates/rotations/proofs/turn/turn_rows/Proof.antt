@@ -17,9 +17,6 @@ Inv-loop n a₀ s tau p q j₀ a j = ((q < j) × (j ≤ n)) × (Square 2 n a × 
 abbrev μ-loop : tie.MeasureT-loop
 μ-loop n a₀ s tau p q j₀ a j = n - j
 
-add-j : tie.Need-add-j Inv-loop μ-loop
-add-j c = search needs
-
 loop-holds : tie.Need-loop-holds Inv-loop μ-loop
 unfolding turnRows
 loop-holds c = (omega arith, (search needs, refl))
@@ -27,19 +24,10 @@ loop-holds c = (omega arith, (search needs, refl))
 turn-requires : tie.Need-turn-requires Inv-loop μ-loop
 turn-requires c κs = (search needs, (omega arith, omega arith))
 
-add-j-2 : tie.Need-add-j-2 Inv-loop μ-loop
-add-j-2 c = search needs
-
-loop-less : tie.Need-loop-less Inv-loop μ-loop
-loop-less c = search needs
-
 loop-again : tie.Need-loop-again Inv-loop μ-loop
 loop-again c =
     let at = c .before .before .before .before .before in
     (omega arith, (search needs, upto-turn (at .loop .j) _ _ (records (at .loop .a)) _ (c .before .before .before .before .loop-test .taken) (c .before .before .turn .ensures .1) (at .loop .inv .1 .1)))
-
-same-length : tie.Need-same-length Inv-loop μ-loop
-same-length c = omega arith
 
 returns : tie.Need-returns Inv-loop μ-loop
 returns c = (search needs, upto-end (c .before .loop .j) _ _ _ (c .loop-test .left) (c .before .loop .inv .1 .1))
@@ -47,14 +35,11 @@ returns c = (search needs, upto-end (c .before .loop .j) _ _ _ (c .loop-test .le
 pub turn-rows-spec : {M : Type 1} → statement M
 turn-rows-spec =
     tie.close
-    (tie.spec
-    Inv-loop
-    μ-loop
-    add-j
+    (tie.spec Inv-loop μ-loop
+    (λ c. search needs)
     loop-holds
     turn-requires
-    add-j-2
-    loop-less
+    (λ c. search needs) (λ c. search needs)
     loop-again
-    same-length
+    (λ c. omega arith)
     returns)

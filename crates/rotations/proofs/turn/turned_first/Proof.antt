@@ -3,22 +3,12 @@ use borrow.Author.Needs.{needs}
 use Rattle.rotations.proofs.turn.turned_first.Statement.{statement}
 use Rattle.rotations.proofs.turn.turned_first.Tie as tie
 
-mul-requires : tie.Need-mul-requires
-mul-requires c κs = search needs
-
-add-requires : tie.Need-add-requires
-add-requires c κs = search needs
-
-mul-requires-2 : tie.Need-mul-requires-2
-mul-requires-2 c κs = search needs
-
-sub-requires : tie.Need-sub-requires
-sub-requires c κs = search needs
-
 returns : tie.Need-returns
 unfolding turnedFirst
 returns c = cc
 
 pub turned-first-spec : {M : Type 1} → statement M
 turned-first-spec =
-    tie.close (tie.spec mul-requires add-requires mul-requires-2 sub-requires returns)
+    tie.close (tie.spec
+    (λ c κs. search needs) (λ c κs. search needs) (λ c κs. search needs) (λ c κs. search needs)
+    returns)
