@@ -6,6 +6,7 @@ use mathlib.Core.Bool.{cond}
 use lib.Dec.{eqb}
 use lib.ListN.{length, getD}
 use lib.Ieee.{Float}
+use Rattle.refusals.specs.Number as refusal
 use Rattle.real.specs.Operations as float
 use Rattle.algebra.specs.Algebra.{Algebra, zeroOf, oneOf}
 use Rattle.algebra.specs.Loop.{upto}
@@ -63,11 +64,11 @@ module _ {R : Type 0} (L : Layout R) where
     sumOf l =
         cond (eqb (length l % L .width) 0)
         (value (upto 0 (recordCount l) (λ p s. A .add s (recordAt l p)) (zeroOf A)))
-        (refused 2)
+        (refused refusal.wrongLength)
 
     -- from one, left to right; a length that is no multiple of the width is refused 2
     unfoldable pub productOf : List Float → Outcome R
     productOf l =
         cond (eqb (length l % L .width) 0)
         (value (upto 0 (recordCount l) (λ p s. A .mul s (recordAt l p)) (oneOf A)))
-        (refused 2)
+        (refused refusal.wrongLength)

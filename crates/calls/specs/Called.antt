@@ -7,6 +7,7 @@ use lib.Dec.{eqb}
 use lib.ListN.{length, getD}
 use lib.Ieee.{Float, eq, lt, le}
 use lib.IntN.{ℤ, pos}
+use Rattle.refusals.specs.Number as refusal
 use Rattle.real.specs.Operations as float
 use Rattle.real.specs.Sign.{signOf}
 use Rattle.algebra.specs.Algebra.{Algebra, addFloat, subFloat, magnitude}
@@ -122,7 +123,7 @@ module _ {R : Type 0} (K : Kind R) where
 
   -- what a call gives, as floats
   abbrev pub answerOf : Call → R → R → R → Outcome (List Float)
-  answerOf Unknown x y z = refused 2
+  answerOf Unknown x y z = refused refusal.wrongLength
   answerOf (Truth test) x y z = value (truth (holds test (K .algebra .re x) (K .algebra .re y)) ∷ [])
   answerOf (SinCos sin cos) x y z = value (K .layout .parts (sinOf (K .algebra) x sin cos) ++ K .layout .parts (cosOf (K .algebra) x sin cos))
   answerOf (Record op) x y z = mapOutcome (K .layout .parts) (operateOf op x y z)
@@ -143,7 +144,7 @@ module _ {R : Type 0} (K : Kind R) where
 
   -- what a sum or a product of a run of flat floats leaves, where out is one record
   abbrev pub joinedLeft : Outcome R → List Float → ℕ × List Float
-  joinedLeft joined out = cond (eqb (length out) (K .layout .width)) (leaves (mapOutcome (K .layout .parts) joined) out) (2, out)
+  joinedLeft joined out = cond (eqb (length out) (K .layout .width)) (leaves (mapOutcome (K .layout .parts) joined) out) (refusal.wrongLength, out)
 
   unfoldable pub summedOf : List Float → List Float → ℕ × List Float
   summedOf run out = joinedLeft (sumOf (K .layout) (K .algebra) run) out

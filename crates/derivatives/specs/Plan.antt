@@ -4,6 +4,8 @@ use lib.Dec.{eqb}
 use lib.Ieee.{Float, lt, eq}
 use lib.IntN.{ℤ, pos, negsuc}
 use lib.Signed.{ltZ}
+use Rattle.refusals.specs.Largest as largest
+use Rattle.refusals.specs.Number as refusal
 use Rattle.real.specs.Operations.{_⊖_, zero, one, epsilon}
 use Rattle.real.specs.Sign.{absOf}
 use Rattle.derivatives.specs.declared.Function.{Function}
@@ -22,8 +24,8 @@ eqZ (negsuc a) (negsuc b) = eqb a b
 -- an exponent below -1024 or above 1024 is refused 5 (the port's own); 0 gives one, 1 the input, 2 the square
 abbrev pub planPowi : Float → ℤ → Float → Plan
 planPowi re exp pow3 =
-    cond (ltZ exp (negsuc 1023)) (Refused 5)
-    (cond (ltZ (pos 1024) exp) (Refused 5)
+    cond (ltZ exp largest.leastExponent) (Refused refusal.exponentTooLarge)
+    (cond (ltZ largest.exponent exp) (Refused refusal.exponentTooLarge)
     (cond (eqZ exp (pos 0)) One
     (cond (eqZ exp (pos 1)) Same
     (cond (eqZ exp (pos 2)) Square

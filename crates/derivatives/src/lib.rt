@@ -14,11 +14,6 @@ const LN_10: f64 = 2.302585092994046;
 
 const EPSILON: f64 = 2.220446049250313e-16;
 
-// The exponents of powi: exp * (exp - 1) * (exp - 2) fits an i32.
-const LEAST_EXPONENT: i32 = -1024;
-
-const LARGEST_EXPONENT: i32 = 1024;
-
 // The value of an elementary function and its first three derivatives at a real part.
 pub struct Series {
     pub f0: f64,
@@ -384,11 +379,11 @@ pub fn choose(re: f64, f: Function) -> Plan
 fn plan_powi(re: f64, exp: i32, pow3: f64) -> Plan
     ensures { λ r. ⌜ r ≡ planPowi re exp pow3 ⌝ }
 {
-    if exp < LEAST_EXPONENT {
-        return Plan::Refused(algebra::EXPONENT_TOO_LARGE);
+    if exp < refusals::LEAST_EXPONENT {
+        return Plan::Refused(refusals::EXPONENT_TOO_LARGE);
     }
-    if exp > LARGEST_EXPONENT {
-        return Plan::Refused(algebra::EXPONENT_TOO_LARGE);
+    if exp > refusals::LARGEST_EXPONENT {
+        return Plan::Refused(refusals::EXPONENT_TOO_LARGE);
     }
     match exp {
         0 => Plan::One,

@@ -197,7 +197,7 @@ pub fn sum(floats: &[f64]) -> DualAnswer
     ensures { λ r. ⌜ outcome r ≡ sumOf dualLayout dualAlgebra (now (floats .entry)) ⌝ }
 {
     if floats.len() % 2 != 0 {
-        return DualAnswer::Refused(algebra::WRONG_LENGTH);
+        return DualAnswer::Refused(refusals::WRONG_LENGTH);
     }
     let count = floats.len() / 2;
     let mut acc = Dual::ZERO;
@@ -214,7 +214,7 @@ pub fn product(floats: &[f64]) -> DualAnswer
     ensures { λ r. ⌜ outcome r ≡ productOf dualLayout dualAlgebra (now (floats .entry)) ⌝ }
 {
     if floats.len() % 2 != 0 {
-        return DualAnswer::Refused(algebra::WRONG_LENGTH);
+        return DualAnswer::Refused(refusals::WRONG_LENGTH);
     }
     let count = floats.len() / 2;
     let mut acc = Dual::ONE;

@@ -203,7 +203,7 @@ pub fn sum(floats: &[f64]) -> Dual2Answer
     ensures { λ r. ⌜ outcome r ≡ sumOf dual2Layout dual2Algebra (now (floats .entry)) ⌝ }
 {
     if floats.len() % 3 != 0 {
-        return Dual2Answer::Refused(algebra::WRONG_LENGTH);
+        return Dual2Answer::Refused(refusals::WRONG_LENGTH);
     }
     let count = floats.len() / 3;
     let mut acc = Dual2::ZERO;
@@ -220,7 +220,7 @@ pub fn product(floats: &[f64]) -> Dual2Answer
     ensures { λ r. ⌜ outcome r ≡ productOf dual2Layout dual2Algebra (now (floats .entry)) ⌝ }
 {
     if floats.len() % 3 != 0 {
-        return Dual2Answer::Refused(algebra::WRONG_LENGTH);
+        return Dual2Answer::Refused(refusals::WRONG_LENGTH);
     }
     let count = floats.len() / 3;
     let mut acc = Dual2::ONE;

@@ -2,6 +2,7 @@
 use Prim.Native.Nat.{ℕ}
 use mathlib.Core.Bool.{cond}
 use lib.Dec.{eqb}
+use Rattle.refusals.specs.Number as refusal
 use Rattle.algebra.specs.Outcome.{Outcome, value, refused}
 use Rattle.dual2.specs.declared.Dual2.{Dual2}
 use Rattle.dual2.specs.Rules.{dual2Algebra, dual2Layout, dual2Derivative}
@@ -9,7 +10,7 @@ use Rattle.calls.specs.Called.{Kind}
 
 -- `derivative` is function 05
 abbrev pub dual2Derivatives : ℕ → Dual2 → Outcome Dual2
-dual2Derivatives function x = cond (eqb function 0x05) (value (dual2Derivative x)) (refused 2)
+dual2Derivatives function x = cond (eqb function 0x05) (value (dual2Derivative x)) (refused refusal.wrongLength)
 
 abbrev pub dual2Kind : Kind Dual2
 dual2Kind = record { algebra = dual2Algebra; layout = dual2Layout; derivative = dual2Derivatives }

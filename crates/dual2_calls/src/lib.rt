@@ -10,7 +10,6 @@ use calls::words;
 use dual2::Dual2;
 use dual2::Dual2Answer;
 use dual2::Dual2SinCos;
-use matrices::floats;
 ghost use mathlib.Core.Path.{_≡_};
 ghost use mathlib.Core.List.{_++_};
 ghost use Prim.Native.Nat.{_+_, _<_};
@@ -29,7 +28,7 @@ fn derivative(function: u32, x: Dual2) -> Dual2Answer
 {
     match function {
         0x05 => Dual2Answer::Value(x.derivative()),
-        _ => Dual2Answer::Refused(algebra::WRONG_LENGTH),
+        _ => Dual2Answer::Refused(refusals::WRONG_LENGTH),
     }
 }
 
@@ -131,7 +130,7 @@ fn run(call: Call, x: Dual2, y: Dual2, z: Dual2, out: &mut [u64]) -> u32
     ensures { λ r. ⌜ (r, now (out .exit)) ≡ leaves (mapOutcome wordsOf (answerOf dual2Kind call x y z)) (now (out .entry)) ⌝ }
 {
     match call {
-        Call::Unknown => algebra::WRONG_LENGTH,
+        Call::Unknown => refusals::WRONG_LENGTH,
         Call::Truth(test) => {
             words::put_one(tests::truth(test, x.re, y.re), out);
             0
@@ -160,10 +159,10 @@ pub fn operator(op: Binary, records: &[u64], out: &mut [u64]) -> u32
     ensures { λ r. ⌜ (r, now (out .exit)) ≡ operatedOf dual2Kind op (now (records .entry)) (now (out .entry)) ⌝ }
 {
     if records.len() != 2 * WIDTH {
-        return algebra::WRONG_LENGTH;
+        return refusals::WRONG_LENGTH;
     }
     if out.len() != WIDTH {
-        return algebra::WRONG_LENGTH;
+        return refusals::WRONG_LENGTH;
     }
     let x = record_at(records, 0);
     let y = record_at(records, 1);
@@ -175,7 +174,7 @@ fn leave_floats(answer: Dual2Answer, out: &mut [f64]) -> u32
     ensures { λ r. ⌜ (r, now (out .exit)) ≡ joinedLeft dual2Kind (outcome answer) (now (out .entry)) ⌝ }
 {
     if out.len() != WIDTH {
-        return algebra::WRONG_LENGTH;
+        return refusals::WRONG_LENGTH;
     }
     match answer {
         Dual2Answer::Value(x) => {

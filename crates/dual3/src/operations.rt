@@ -209,7 +209,7 @@ pub fn sum(floats: &[f64]) -> Dual3Answer
     ensures { λ r. ⌜ outcome r ≡ sumOf dual3Layout dual3Algebra (now (floats .entry)) ⌝ }
 {
     if floats.len() % 4 != 0 {
-        return Dual3Answer::Refused(algebra::WRONG_LENGTH);
+        return Dual3Answer::Refused(refusals::WRONG_LENGTH);
     }
     let count = floats.len() / 4;
     let mut acc = Dual3::ZERO;
@@ -226,7 +226,7 @@ pub fn product(floats: &[f64]) -> Dual3Answer
     ensures { λ r. ⌜ outcome r ≡ productOf dual3Layout dual3Algebra (now (floats .entry)) ⌝ }
 {
     if floats.len() % 4 != 0 {
-        return Dual3Answer::Refused(algebra::WRONG_LENGTH);
+        return Dual3Answer::Refused(refusals::WRONG_LENGTH);
     }
     let count = floats.len() / 4;
     let mut acc = Dual3::ONE;

@@ -2,6 +2,7 @@
 use Prim.Native.Nat.{ℕ}
 use mathlib.Core.Bool.{cond}
 use lib.Dec.{eqb}
+use Rattle.refusals.specs.Number as refusal
 use Rattle.algebra.specs.Outcome.{Outcome, value, refused}
 use Rattle.dual3.specs.declared.Dual3.{Dual3}
 use Rattle.dual3.specs.Rules.{dual3Algebra, dual3Layout, dual3Derivative}
@@ -9,7 +10,7 @@ use Rattle.calls.specs.Called.{Kind}
 
 -- `derivative` is function 05
 abbrev pub dual3Derivatives : ℕ → Dual3 → Outcome Dual3
-dual3Derivatives function x = cond (eqb function 0x05) (value (dual3Derivative x)) (refused 2)
+dual3Derivatives function x = cond (eqb function 0x05) (value (dual3Derivative x)) (refused refusal.wrongLength)
 
 abbrev pub dual3Kind : Kind Dual3
 dual3Kind = record { algebra = dual3Algebra; layout = dual3Layout; derivative = dual3Derivatives }

@@ -10,7 +10,6 @@ use calls::words;
 use dual3::Dual3;
 use dual3::Dual3Answer;
 use dual3::Dual3SinCos;
-use matrices::floats;
 ghost use mathlib.Core.Path.{_≡_};
 ghost use mathlib.Core.List.{_++_};
 ghost use Prim.Native.Nat.{_+_, _<_};
@@ -29,7 +28,7 @@ fn derivative(function: u32, x: Dual3) -> Dual3Answer
 {
     match function {
         0x05 => Dual3Answer::Value(x.derivative()),
-        _ => Dual3Answer::Refused(algebra::WRONG_LENGTH),
+        _ => Dual3Answer::Refused(refusals::WRONG_LENGTH),
     }
 }
 
@@ -132,7 +131,7 @@ fn run(call: Call, x: Dual3, y: Dual3, z: Dual3, out: &mut [u64]) -> u32
     ensures { λ r. ⌜ (r, now (out .exit)) ≡ leaves (mapOutcome wordsOf (answerOf dual3Kind call x y z)) (now (out .entry)) ⌝ }
 {
     match call {
-        Call::Unknown => algebra::WRONG_LENGTH,
+        Call::Unknown => refusals::WRONG_LENGTH,
         Call::Truth(test) => {
             words::put_one(tests::truth(test, x.re, y.re), out);
             0
@@ -161,10 +160,10 @@ pub fn operator(op: Binary, records: &[u64], out: &mut [u64]) -> u32
     ensures { λ r. ⌜ (r, now (out .exit)) ≡ operatedOf dual3Kind op (now (records .entry)) (now (out .entry)) ⌝ }
 {
     if records.len() != 2 * WIDTH {
-        return algebra::WRONG_LENGTH;
+        return refusals::WRONG_LENGTH;
     }
     if out.len() != WIDTH {
-        return algebra::WRONG_LENGTH;
+        return refusals::WRONG_LENGTH;
     }
     let x = record_at(records, 0);
     let y = record_at(records, 1);
@@ -176,7 +175,7 @@ fn leave_floats(answer: Dual3Answer, out: &mut [f64]) -> u32
     ensures { λ r. ⌜ (r, now (out .exit)) ≡ joinedLeft dual3Kind (outcome answer) (now (out .entry)) ⌝ }
 {
     if out.len() != WIDTH {
-        return algebra::WRONG_LENGTH;
+        return refusals::WRONG_LENGTH;
     }
     match answer {
         Dual3Answer::Value(x) => {

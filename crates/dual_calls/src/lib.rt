@@ -10,7 +10,6 @@ use calls::words;
 use dual::Dual;
 use dual::DualAnswer;
 use dual::DualSinCos;
-use matrices::floats;
 ghost use mathlib.Core.Path.{_≡_};
 ghost use mathlib.Core.List.{_++_};
 ghost use Prim.Native.Nat.{_+_, _<_};
@@ -29,7 +28,7 @@ fn derivative(function: u32, x: Dual) -> DualAnswer
 {
     match function {
         0x05 => DualAnswer::Value(x.derivative()),
-        _ => DualAnswer::Refused(algebra::WRONG_LENGTH),
+        _ => DualAnswer::Refused(refusals::WRONG_LENGTH),
     }
 }
 
@@ -127,7 +126,7 @@ fn run(call: Call, x: Dual, y: Dual, z: Dual, out: &mut [u64]) -> u32
     ensures { λ r. ⌜ (r, now (out .exit)) ≡ leaves (mapOutcome wordsOf (answerOf dualKind call x y z)) (now (out .entry)) ⌝ }
 {
     match call {
-        Call::Unknown => algebra::WRONG_LENGTH,
+        Call::Unknown => refusals::WRONG_LENGTH,
         Call::Truth(test) => {
             words::put_one(tests::truth(test, x.re, y.re), out);
             0
@@ -156,10 +155,10 @@ pub fn operator(op: Binary, records: &[u64], out: &mut [u64]) -> u32
     ensures { λ r. ⌜ (r, now (out .exit)) ≡ operatedOf dualKind op (now (records .entry)) (now (out .entry)) ⌝ }
 {
     if records.len() != 2 * WIDTH {
-        return algebra::WRONG_LENGTH;
+        return refusals::WRONG_LENGTH;
     }
     if out.len() != WIDTH {
-        return algebra::WRONG_LENGTH;
+        return refusals::WRONG_LENGTH;
     }
     let x = record_at(records, 0);
     let y = record_at(records, 1);
@@ -171,7 +170,7 @@ fn leave_floats(answer: DualAnswer, out: &mut [f64]) -> u32
     ensures { λ r. ⌜ (r, now (out .exit)) ≡ joinedLeft dualKind (outcome answer) (now (out .entry)) ⌝ }
 {
     if out.len() != WIDTH {
-        return algebra::WRONG_LENGTH;
+        return refusals::WRONG_LENGTH;
     }
     match answer {
         DualAnswer::Value(x) => {

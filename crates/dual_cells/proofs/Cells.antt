@@ -13,11 +13,11 @@ use Rattle.dual.specs.Rules.{dual, dualAlgebra, dualLayout}
 use Rattle.dual.specs.declared.Dual.{Dual}
 use Rattle.dual.proofs.Flat.{dual-lawful, dual-agrees}
 use Rattle.dual.proofs.RealParts.{dual-reals}
-use Rattle.matrices.proofs.Laws.{Laws}
+use Rattle.algebra.proofs.Laws.{Laws}
 use Rattle.dual_cells.specs.Records.{records}
 use Rattle.matrices.specs.Matrix.{Square}
 use Rattle.matrices.proofs.Places.{place, flat-place}
-use Rattle.matrices.proofs.Turns.{read-at, write-at}
+use Rattle.algebra.proofs.Cells.{read-at, write-at}
 
 -- what matrices ask of `Dual`
 pub dual-laws : Laws dualAlgebra dualLayout

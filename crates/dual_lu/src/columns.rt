@@ -119,7 +119,7 @@ pub(crate) fn determinant_of(n: usize, a: &[f64], order: &[usize], swaps: usize)
     for i in 0..n {
         let k = order[i];
         if k >= n {
-            return DualAnswer::Refused(algebra::NOT_AN_ORDER);
+            return DualAnswer::Refused(refusals::NOT_AN_ORDER);
         }
         m = matrices::order::mark(m, k);
         x = x.mul(dual_cells::read(a, i * n + i));

@@ -134,7 +134,7 @@ fn inverse_starts(n: usize, order: &[usize], x: &mut [f64])
     requires { ⌜ Square 2 n (now x) ⌝ }
     ensures { λ _. ⌜ decode dualLayout (now (x .exit)) ≡ units dualAlgebra n (now (order .entry)) ⌝ }
 {
-    matrices::floats::clear(x);
+    floats::clear(x);
     for i in 0..n {
         let p = order[i];
         dual_cells::write(x, i * n + p, Dual::ONE);

@@ -48,14 +48,14 @@ fn of_lines(
 pub(crate) fn line_refusal(n: usize, limit: usize) -> u32
     ensures { λ r. ⌜ r ≡ eigLineRefusal n limit ⌝ }
 {
-    if algebra::LARGEST_N < n {
-        return algebra::TOO_LARGE;
+    if refusals::LARGEST_N < n {
+        return refusals::TOO_LARGE;
     }
     if n == 0 {
-        return algebra::EMPTY;
+        return refusals::EMPTY;
     }
-    if algebra::LARGEST_LIMIT < limit {
-        return algebra::LIMIT_TOO_LARGE;
+    if refusals::LARGEST_LIMIT < limit {
+        return refusals::LIMIT_TOO_LARGE;
     }
     0
 }

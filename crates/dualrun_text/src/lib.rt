@@ -49,7 +49,7 @@ impl Request {
         match self {
             Request::Lu { n, start: _ } => lu::line_refusal(n),
             Request::Eig { n, limit, start: _ } => eig::line_refusal(n, limit),
-            Request::Unreadable => algebra::UNREADABLE,
+            Request::Unreadable => refusals::UNREADABLE,
         }
     }
 }

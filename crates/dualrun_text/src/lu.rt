@@ -49,8 +49,8 @@ fn of_lines(
 pub(crate) fn line_refusal(n: usize) -> u32
     ensures { λ r. ⌜ r ≡ luLineRefusal n ⌝ }
 {
-    if algebra::LARGEST_N < n {
-        return algebra::TOO_LARGE;
+    if refusals::LARGEST_N < n {
+        return refusals::TOO_LARGE;
     }
     0
 }

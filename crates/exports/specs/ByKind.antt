@@ -5,6 +5,7 @@ use mathlib.Core.List.{List}
 use lib.Dec.{eqb}
 use lib.Ieee.{Float}
 use lib.IntN.{ℤ}
+use Rattle.refusals.specs.Number as refusal
 use Rattle.calls.specs.Called.{Kind, calledOf, summedOf, multipliedOf}
 use Rattle.dual_calls.specs.Kind.{dualKind}
 use Rattle.dual2_calls.specs.Kind.{dual2Kind}
@@ -24,11 +25,11 @@ byKind f kind other =
 
 -- a call by function number: its number and out; an unknown kind is refused 2
 unfoldable pub recordLeft : ℕ → ℕ → ℤ → List ℕ → List ℕ → List ℕ → ℕ × List ℕ
-recordLeft kind function exponent records floats out = byKind (λ R K. calledOf K function exponent records floats out) kind (2, out)
+recordLeft kind function exponent records floats out = byKind (λ R K. calledOf K function exponent records floats out) kind (refusal.wrongLength, out)
 
 -- the sum, the product of a run of flat floats
 unfoldable pub sumLeft : ℕ → List Float → List Float → ℕ × List Float
-sumLeft kind run out = byKind (λ R K. summedOf K run out) kind (2, out)
+sumLeft kind run out = byKind (λ R K. summedOf K run out) kind (refusal.wrongLength, out)
 
 unfoldable pub productLeft : ℕ → List Float → List Float → ℕ × List Float
-productLeft kind run out = byKind (λ R K. multipliedOf K run out) kind (2, out)
+productLeft kind run out = byKind (λ R K. multipliedOf K run out) kind (refusal.wrongLength, out)

@@ -4,6 +4,7 @@ use mathlib.Core.Bool.{cond}
 use mathlib.Core.List.{List}
 use lib.Dec.{eqb}
 use lib.Ieee.{Float}
+use Rattle.refusals.specs.Number as refusal
 use Rattle.algebra.specs.Outcome.{Outcome, value, refused, numberOf}
 use Rattle.dual.specs.declared.Dual.{Dual}
 use Rattle.hyperdual.specs.declared.HyperDual.{HyperDual}
@@ -18,7 +19,7 @@ countOf before (refused number) = before
 -- beside LU's number: the swap count, or at 6 the column; else as it was
 abbrev pub besideOf : ℕ → Outcome ℕ → ℕ → ℕ
 besideOf before (value swaps) column = swaps
-besideOf before (refused number) column = cond (eqb number 6) column before
+besideOf before (refused number) column = cond (eqb number refusal.singular) column before
 
 -- LU: the number, what stands beside it, the factors, the order
 abbrev pub luNumbered : ℕ → LuLeft → ℕ × (ℕ × (List Float × List ℕ))

@@ -17,7 +17,7 @@ pub(crate) fn lu_number(answer: LuAnswer, beside: &mut usize) -> u32
 {
     let LuAnswer::Done { swaps } = answer else {
         let number = answer.number();
-        if number == algebra::SINGULAR {
+        if number == refusals::SINGULAR {
             *beside = answer.column();
         }
         return number;

@@ -17,7 +17,7 @@ fn operator(kind: u32, op: Binary, records: &[u64], out: &mut [u64]) -> u32
         3 => dual3_calls::operator(op, records, out),
         4 => hyperdual_calls::operator(op, records, out),
         5 => hyperhyperdual_calls::operator(op, records, out),
-        _ => algebra::WRONG_LENGTH,
+        _ => refusals::WRONG_LENGTH,
     }
 }
 

@@ -22,7 +22,7 @@ pub extern "C" fn evindrast_record(
         3 => dual3_calls::call(function, exponent, records, floats, out),
         4 => hyperdual_calls::call(function, exponent, records, floats, out),
         5 => hyperhyperdual_calls::call(function, exponent, records, floats, out),
-        _ => algebra::WRONG_LENGTH,
+        _ => refusals::WRONG_LENGTH,
     }
 }
 
@@ -37,7 +37,7 @@ pub extern "C" fn evindrast_sum(kind: u32, run: &[f64], out: &mut [f64]) -> u32
         3 => dual3_calls::sum(run, out),
         4 => hyperdual_calls::sum(run, out),
         5 => hyperhyperdual_calls::sum(run, out),
-        _ => algebra::WRONG_LENGTH,
+        _ => refusals::WRONG_LENGTH,
     }
 }
 
@@ -52,6 +52,6 @@ pub extern "C" fn evindrast_product(kind: u32, run: &[f64], out: &mut [f64]) -> 
         3 => dual3_calls::product(run, out),
         4 => hyperdual_calls::product(run, out),
         5 => hyperhyperdual_calls::product(run, out),
-        _ => algebra::WRONG_LENGTH,
+        _ => refusals::WRONG_LENGTH,
     }
 }

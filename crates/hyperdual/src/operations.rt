@@ -209,7 +209,7 @@ pub fn sum(floats: &[f64]) -> HyperDualAnswer
     ensures { λ r. ⌜ outcome r ≡ sumOf hyperDualLayout hyperDualAlgebra (now (floats .entry)) ⌝ }
 {
     if floats.len() % 4 != 0 {
-        return HyperDualAnswer::Refused(algebra::WRONG_LENGTH);
+        return HyperDualAnswer::Refused(refusals::WRONG_LENGTH);
     }
     let count = floats.len() / 4;
     let mut acc = HyperDual::ZERO;
@@ -226,7 +226,7 @@ pub fn product(floats: &[f64]) -> HyperDualAnswer
     ensures { λ r. ⌜ outcome r ≡ productOf hyperDualLayout hyperDualAlgebra (now (floats .entry)) ⌝ }
 {
     if floats.len() % 4 != 0 {
-        return HyperDualAnswer::Refused(algebra::WRONG_LENGTH);
+        return HyperDualAnswer::Refused(refusals::WRONG_LENGTH);
     }
     let count = floats.len() / 4;
     let mut acc = HyperDual::ONE;

@@ -2,6 +2,7 @@
 use Prim.Native.Nat.{ℕ}
 use mathlib.Core.Bool.{cond}
 use lib.Dec.{eqb}
+use Rattle.refusals.specs.Number as refusal
 use Rattle.algebra.specs.Outcome.{Outcome, value, refused}
 use Rattle.hyperdual.specs.declared.HyperDual.{HyperDual}
 use Rattle.hyperdual.specs.Rules.{hyperDualAlgebra, hyperDualLayout, hyperDualDerivative1, hyperDualDerivative2}
@@ -9,7 +10,7 @@ use Rattle.calls.specs.Called.{Kind}
 
 -- `derivative1` is function 06 and `derivative2` is function 07
 abbrev pub hyperDualDerivatives : ℕ → HyperDual → Outcome HyperDual
-hyperDualDerivatives function x = cond (eqb function 0x06) (value (hyperDualDerivative1 x)) (cond (eqb function 0x07) (value (hyperDualDerivative2 x)) (refused 2))
+hyperDualDerivatives function x = cond (eqb function 0x06) (value (hyperDualDerivative1 x)) (cond (eqb function 0x07) (value (hyperDualDerivative2 x)) (refused refusal.wrongLength))
 
 abbrev pub hyperDualKind : Kind HyperDual
 hyperDualKind = record { algebra = hyperDualAlgebra; layout = hyperDualLayout; derivative = hyperDualDerivatives }

@@ -10,7 +10,6 @@ use calls::words;
 use hyperdual::HyperDual;
 use hyperdual::HyperDualAnswer;
 use hyperdual::HyperDualSinCos;
-use matrices::floats;
 ghost use mathlib.Core.Path.{_≡_};
 ghost use mathlib.Core.List.{_++_};
 ghost use Prim.Native.Nat.{_+_, _<_};
@@ -30,7 +29,7 @@ fn derivative(function: u32, x: HyperDual) -> HyperDualAnswer
     match function {
         0x06 => HyperDualAnswer::Value(x.derivative1()),
         0x07 => HyperDualAnswer::Value(x.derivative2()),
-        _ => HyperDualAnswer::Refused(algebra::WRONG_LENGTH),
+        _ => HyperDualAnswer::Refused(refusals::WRONG_LENGTH),
     }
 }
 
@@ -142,7 +141,7 @@ fn run(call: Call, x: HyperDual, y: HyperDual, z: HyperDual, out: &mut [u64]) ->
     ensures { λ r. ⌜ (r, now (out .exit)) ≡ leaves (mapOutcome wordsOf (answerOf hyperDualKind call x y z)) (now (out .entry)) ⌝ }
 {
     match call {
-        Call::Unknown => algebra::WRONG_LENGTH,
+        Call::Unknown => refusals::WRONG_LENGTH,
         Call::Truth(test) => {
             words::put_one(tests::truth(test, x.re, y.re), out);
             0
@@ -171,10 +170,10 @@ pub fn operator(op: Binary, records: &[u64], out: &mut [u64]) -> u32
     ensures { λ r. ⌜ (r, now (out .exit)) ≡ operatedOf hyperDualKind op (now (records .entry)) (now (out .entry)) ⌝ }
 {
     if records.len() != 2 * WIDTH {
-        return algebra::WRONG_LENGTH;
+        return refusals::WRONG_LENGTH;
     }
     if out.len() != WIDTH {
-        return algebra::WRONG_LENGTH;
+        return refusals::WRONG_LENGTH;
     }
     let x = record_at(records, 0);
     let y = record_at(records, 1);
@@ -186,7 +185,7 @@ fn leave_floats(answer: HyperDualAnswer, out: &mut [f64]) -> u32
     ensures { λ r. ⌜ (r, now (out .exit)) ≡ joinedLeft hyperDualKind (outcome answer) (now (out .entry)) ⌝ }
 {
     if out.len() != WIDTH {
-        return algebra::WRONG_LENGTH;
+        return refusals::WRONG_LENGTH;
     }
     match answer {
         HyperDualAnswer::Value(x) => {

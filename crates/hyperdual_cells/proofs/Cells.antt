@@ -14,8 +14,8 @@ use Rattle.hyperdual.specs.Rules.{hyperDual, hyperDualAlgebra, hyperDualLayout}
 use Rattle.hyperdual.specs.declared.HyperDual.{HyperDual}
 use Rattle.hyperdual.proofs.Flat.{hyper-dual-lawful, hyper-dual-agrees}
 use Rattle.hyperdual.proofs.RealParts.{hyper-dual-reals}
-use Rattle.matrices.proofs.Laws.{Laws}
-use Rattle.matrices.proofs.Turns.{read-at, write-at}
+use Rattle.algebra.proofs.Laws.{Laws}
+use Rattle.algebra.proofs.Cells.{read-at, write-at}
 
 -- what matrices ask of `HyperDual`
 pub hyper-dual-laws : Laws hyperDualAlgebra hyperDualLayout

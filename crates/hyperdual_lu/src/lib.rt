@@ -23,15 +23,15 @@ fn factor(n: usize, a: &[f64], factors: &mut [f64], order: &mut [usize]) -> LuAn
     requires { ⌜ length (now order) ≡ n ⌝ }
     ensures { λ r. ⌜ luAnswered (luOutcome r) (luColumn r) (now (factors .exit)) (now (order .exit)) ≡ luFinish hyperDualAlgebra hyperDualLayout n (luOf hyperDualAlgebra n (decode hyperDualLayout (now (a .entry)))) ⌝ }
 {
-    matrices::floats::copy(a, factors);
+    floats::copy(a, factors);
     matrices::order::number(order);
     let s = columns::run_columns(n, factors, order);
     match s {
         Step::Singular { column } => {
-            matrices::floats::clear(factors);
+            floats::clear(factors);
             matrices::order::clear(order);
             LuAnswer::Refused {
-                number: algebra::SINGULAR,
+                number: refusals::SINGULAR,
                 column,
             }
         }

@@ -144,7 +144,7 @@ fn inverse_starts(n: usize, order: &[usize], x: &mut [f64])
     requires { ⌜ Square 4 n (now x) ⌝ }
     ensures { λ _. ⌜ decode hyperDualLayout (now (x .exit)) ≡ units hyperDualAlgebra n (now (order .entry)) ⌝ }
 {
-    matrices::floats::clear(x);
+    floats::clear(x);
     for i in 0..n {
         let p = order[i];
         hyperdual_cells::write(x, i * n + p, HyperDual::ONE);

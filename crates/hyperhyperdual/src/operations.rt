@@ -233,7 +233,7 @@ pub fn sum(floats: &[f64]) -> HyperHyperDualAnswer
     ensures { λ r. ⌜ outcome r ≡ sumOf hyperHyperDualLayout hyperHyperDualAlgebra (now (floats .entry)) ⌝ }
 {
     if floats.len() % 8 != 0 {
-        return HyperHyperDualAnswer::Refused(algebra::WRONG_LENGTH);
+        return HyperHyperDualAnswer::Refused(refusals::WRONG_LENGTH);
     }
     let count = floats.len() / 8;
     let mut acc = HyperHyperDual::ZERO;
@@ -250,7 +250,7 @@ pub fn product(floats: &[f64]) -> HyperHyperDualAnswer
     ensures { λ r. ⌜ outcome r ≡ productOf hyperHyperDualLayout hyperHyperDualAlgebra (now (floats .entry)) ⌝ }
 {
     if floats.len() % 8 != 0 {
-        return HyperHyperDualAnswer::Refused(algebra::WRONG_LENGTH);
+        return HyperHyperDualAnswer::Refused(refusals::WRONG_LENGTH);
     }
     let count = floats.len() / 8;
     let mut acc = HyperHyperDual::ONE;

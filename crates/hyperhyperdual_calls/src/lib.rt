@@ -10,7 +10,6 @@ use calls::words;
 use hyperhyperdual::HyperHyperDual;
 use hyperhyperdual::HyperHyperDualAnswer;
 use hyperhyperdual::HyperHyperDualSinCos;
-use matrices::floats;
 ghost use mathlib.Core.Path.{_≡_};
 ghost use mathlib.Core.List.{_++_};
 ghost use Prim.Native.Nat.{_+_, _<_};
@@ -31,7 +30,7 @@ fn derivative(function: u32, x: HyperHyperDual) -> HyperHyperDualAnswer
         0x06 => HyperHyperDualAnswer::Value(x.derivative1()),
         0x07 => HyperHyperDualAnswer::Value(x.derivative2()),
         0x08 => HyperHyperDualAnswer::Value(x.derivative3()),
-        _ => HyperHyperDualAnswer::Refused(algebra::WRONG_LENGTH),
+        _ => HyperHyperDualAnswer::Refused(refusals::WRONG_LENGTH),
     }
 }
 
@@ -169,7 +168,7 @@ fn run(call: Call, x: HyperHyperDual, y: HyperHyperDual, z: HyperHyperDual, out:
     ensures { λ r. ⌜ (r, now (out .exit)) ≡ leaves (mapOutcome wordsOf (answerOf hyperHyperDualKind call x y z)) (now (out .entry)) ⌝ }
 {
     match call {
-        Call::Unknown => algebra::WRONG_LENGTH,
+        Call::Unknown => refusals::WRONG_LENGTH,
         Call::Truth(test) => {
             words::put_one(tests::truth(test, x.re, y.re), out);
             0
@@ -198,10 +197,10 @@ pub fn operator(op: Binary, records: &[u64], out: &mut [u64]) -> u32
     ensures { λ r. ⌜ (r, now (out .exit)) ≡ operatedOf hyperHyperDualKind op (now (records .entry)) (now (out .entry)) ⌝ }
 {
     if records.len() != 2 * WIDTH {
-        return algebra::WRONG_LENGTH;
+        return refusals::WRONG_LENGTH;
     }
     if out.len() != WIDTH {
-        return algebra::WRONG_LENGTH;
+        return refusals::WRONG_LENGTH;
     }
     let x = record_at(records, 0);
     let y = record_at(records, 1);
@@ -213,7 +212,7 @@ fn leave_floats(answer: HyperHyperDualAnswer, out: &mut [f64]) -> u32
     ensures { λ r. ⌜ (r, now (out .exit)) ≡ joinedLeft hyperHyperDualKind (outcome answer) (now (out .entry)) ⌝ }
 {
     if out.len() != WIDTH {
-        return algebra::WRONG_LENGTH;
+        return refusals::WRONG_LENGTH;
     }
     match answer {
         HyperHyperDualAnswer::Value(x) => {

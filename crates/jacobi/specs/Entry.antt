@@ -5,6 +5,8 @@ use mathlib.Core.List.{List}
 use lib.Dec.{ltb, eqb}
 use lib.ListN.{length}
 use lib.Ieee.{Float}
+use Rattle.refusals.specs.Largest as largest
+use Rattle.refusals.specs.Number as refusal
 use Rattle.algebra.specs.Algebra.{Algebra}
 use Rattle.algebra.specs.Flat.{Layout, decode, encode}
 use Rattle.algebra.specs.Outcome.{Outcome, value, refused}
@@ -14,10 +16,10 @@ use Rattle.jacobi.specs.Sort.{Eigen, jacobiOf}
 -- 1: n above 32; 3: n = 0; 2: a lent length is not the one wanted; 4: a limit above 1,000
 abbrev pub jacobiRefusal : ℕ → ℕ → ℕ → ℕ → ℕ → ℕ → ℕ
 jacobiRefusal w n a limit values vectors =
-    cond (ltb 32 n) 1
-    (cond (eqb n 0) 3
+    cond (ltb largest.n n) refusal.tooLarge
+    (cond (eqb n 0) refusal.empty
     (cond (eqb a (n * n * w) && (eqb values (n * w) && eqb vectors (n * n * w)))
-    (cond (ltb 1000 limit) 4 0) 2))
+    (cond (ltb largest.limit limit) refusal.limitTooLarge 0) refusal.wrongLength))
 
 -- what a call leaves: done with the sweep count or refused by a number, and both buffers
 pub record JacobiLeft : Type 0 where

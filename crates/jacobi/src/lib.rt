@@ -6,6 +6,7 @@ mod sweeps;
 ghost use mathlib.Core.Path.{_≡_};
 ghost use Prim.Native.Nat.{_*_, _<_, _≤_};
 ghost use lib.ListN.{length};
+ghost use Rattle.refusals.specs.Largest as largest;
 ghost use Rattle.algebra.specs.Outcome.{numberOf};
 ghost use Rattle.dual.specs.Rules.{dualAlgebra, dualLayout};
 ghost use Rattle.dual_cells.specs.Records.{records};
@@ -49,24 +50,24 @@ pub(crate) enum Step {
 fn refusal(n: usize, a: usize, limit: usize, values: usize, vectors: usize) -> u32
     ensures { λ r. ⌜ r ≡ jacobiRefusal 2 n a limit values vectors ⌝ }
 {
-    if algebra::LARGEST_N < n {
-        return algebra::TOO_LARGE;
+    if refusals::LARGEST_N < n {
+        return refusals::TOO_LARGE;
     }
     if n == 0 {
-        return algebra::EMPTY;
+        return refusals::EMPTY;
     }
     let full = n * n * 2;
     if a != full {
-        return algebra::WRONG_LENGTH;
+        return refusals::WRONG_LENGTH;
     }
     if values != n * 2 {
-        return algebra::WRONG_LENGTH;
+        return refusals::WRONG_LENGTH;
     }
     if vectors != full {
-        return algebra::WRONG_LENGTH;
+        return refusals::WRONG_LENGTH;
     }
-    if algebra::LARGEST_LIMIT < limit {
-        return algebra::LIMIT_TOO_LARGE;
+    if refusals::LARGEST_LIMIT < limit {
+        return refusals::LIMIT_TOO_LARGE;
     }
     0
 }
@@ -86,7 +87,7 @@ fn run(
     requires { ⌜ (Square 2 n (now w)) × (Square 2 n (now vectors)) ⌝ }
     requires { ⌜ (length (now bw) ≡ n * 2) × (length (now zw) ≡ n * 2) ⌝ }
     requires { ⌜ length (now values) ≡ n * 2 ⌝ }
-    requires { ⌜ (0 < n) × (limit ≤ 1000) ⌝ }
+    requires { ⌜ (0 < n) × (limit ≤ largest.limit) ⌝ }
     ensures { λ r. ⌜ eigen (records (now (values .exit))) (records (now (vectors .exit))) (r .sweeps) (r .rotations) (r .stopped) ≡ jacobiOf dualAlgebra n limit (records (now (a .entry))) ⌝ }
 {
     prepare::prepare(n, a, w, bw, zw, values, vectors);
@@ -101,7 +102,7 @@ fn run_up_to_8(n: usize, a: &[f64], limit: usize, values: &mut [f64], vectors: &
     requires { ⌜ Square 2 n (now vectors) ⌝ }
     requires { ⌜ length (now values) ≡ n * 2 ⌝ }
     requires { ⌜ (0 < n) × (n ≤ 8) ⌝ }
-    requires { ⌜ limit ≤ 1000 ⌝ }
+    requires { ⌜ limit ≤ largest.limit ⌝ }
     ensures { λ r. ⌜ eigen (records (now (values .exit))) (records (now (vectors .exit))) (r .sweeps) (r .rotations) (r .stopped) ≡ jacobiOf dualAlgebra n limit (records (now (a .entry))) ⌝ }
 {
     let full = n * n * 2;
@@ -126,8 +127,8 @@ fn run_up_to_32(n: usize, a: &[f64], limit: usize, values: &mut [f64], vectors: 
     requires { ⌜ Square 2 n (now a) ⌝ }
     requires { ⌜ Square 2 n (now vectors) ⌝ }
     requires { ⌜ length (now values) ≡ n * 2 ⌝ }
-    requires { ⌜ (0 < n) × (n ≤ 32) ⌝ }
-    requires { ⌜ limit ≤ 1000 ⌝ }
+    requires { ⌜ (0 < n) × (n ≤ largest.n) ⌝ }
+    requires { ⌜ limit ≤ largest.limit ⌝ }
     ensures { λ r. ⌜ eigen (records (now (values .exit))) (records (now (vectors .exit))) (r .sweeps) (r .rotations) (r .stopped) ≡ jacobiOf dualAlgebra n limit (records (now (a .entry))) ⌝ }
 {
     let full = n * n * 2;

@@ -3,7 +3,6 @@ use dual::Dual;
 use dual_cells::get;
 use dual_cells::put;
 use dual_cells::write;
-use matrices::floats;
 ghost use mathlib.Core.Path.{_≡_};
 ghost use Prim.Native.Nat.{_*_};
 ghost use lib.ListN.{length, replicate};

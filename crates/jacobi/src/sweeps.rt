@@ -4,12 +4,12 @@ use super::Step;
 use dual_cells::get;
 use dual_cells::read;
 use dual_cells::write;
-use matrices::floats;
 use rotations::pair;
 ghost use mathlib.Core.Path.{_≡_};
 ghost use mathlib.Core.Bool.{true, false};
 ghost use Prim.Native.Nat.{_+_, _*_, _<_, _≤_};
 ghost use lib.ListN.{length, replicate};
+ghost use Rattle.refusals.specs.Largest as largest;
 ghost use Rattle.algebra.specs.Algebra.{zeroOf};
 ghost use Rattle.algebra.specs.Loop.{upto};
 ghost use Rattle.dual.specs.Rules.{dualAlgebra};
@@ -171,7 +171,7 @@ pub(crate) fn sweeps(
 ) -> Ended
     requires { ⌜ Sized n (now a) (now v) (now d) (now zw) ⌝ }
     requires { ⌜ length (now bw) ≡ n * 2 ⌝ }
-    requires { ⌜ limit ≤ 1000 ⌝ }
+    requires { ⌜ limit ≤ largest.limit ⌝ }
     ensures { λ _. ⌜ Sized n (now (a .exit)) (now (v .exit)) (now (d .exit)) (now (zw .exit)) ⌝ }
     ensures { λ r. ⌜ eigen (records (now (d .exit))) (records (now (v .exit))) (r .sweeps) (r .rotations) (r .stopped)
         ≡ ended (upto 0 limit (rule.step dualAlgebra n) (runOf (now (a .entry)) (now (v .entry)) (now (d .entry)) (now (zw .entry)) (now (bw .entry)) 0 0)) ⌝ }

@@ -31,7 +31,7 @@ use Rattle.matrices.specs.declared.SolveAnswer.{SolveAnswer}
 use Rattle.matrices.specs.declared.SolveAnswer.the-variants as solve
 use Rattle.matrices.proofs.AfterLu.{lu-full, solve-accepts, inverse-accepts, determinant-accepts}
 use Rattle.matrices.proofs.Answers.{LeavesOrder, lu-leaves-order, solve-done, inverse-done, determinant-done, lu-same, solve-same, inverse-same, determinant-same}
-use Rattle.matrices.proofs.Laws.{Laws}
+use Rattle.algebra.proofs.Laws.{Laws}
 use Rattle.matrices.proofs.PreviousContents.{lu-equal, lu-kept, lu-zero, solve-equal, solve-kept, inverse-equal, inverse-kept}
 use Rattle.matrices.proofs.Times.{order-occurs}
 

@@ -1,6 +1,5 @@
 -- Laws of matrices over any record; those that the crates of the entries cite are public.
--- lists: what a filling loop has passed, what is left of a list
-pub mod Fill
+-- lists: what is left of one
 mod Rest
 pub mod Odd
 -- places of a square matrix in flat floats
@@ -23,8 +22,7 @@ pub mod Answers
 -- beside demand 3, of what the entries leave: previous contents and refusals, and that what LU left is accepted
 mod PreviousContents
 mod AfterLu
--- what they ask of a record, and the code over it function by function
-pub mod Laws
+-- the code over a record, function by function
 pub mod Turns
 -- the entries by what their contracts say
 pub mod Calls

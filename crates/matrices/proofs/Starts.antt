@@ -19,7 +19,7 @@ use Rattle.matrices.specs.Matrix.{cell, store}
 use Rattle.matrices.specs.Solve.{assign, less, eliminate, forwardRow, forward, divide, backRow, back, substitute, forwardFrom, substituteFrom, solveOf}
 use Rattle.matrices.specs.Inverse.{unit, inverseColumn, inverseOf, units}
 use Rattle.matrices.specs.Order.{Order}
-use Rattle.matrices.proofs.Fill.{Filled, filled-more, filled-all}
+use Rattle.floats.proofs.Fill.{Filled, filled-more, filled-all}
 use Rattle.matrices.proofs.Inner.{stride-apart}
 use Rattle.matrices.proofs.Permutation.{order-below}
 use Rattle.matrices.proofs.Places.{place}

@@ -7,7 +7,6 @@ use native.Mathlib.Nat.{mul-le-mul-right}
 use native.Mathlib.Omega.{arith}
 use lib.Dec.{ltb, eqb}
 use lib.ListN.{length, getD, set, replicate}
-use lib.Seq.{sets}
 use lib.Ieee.{Float}
 use borrow.Author.Tests.{le-ltb, eq-eqb, ne-eqb}
 use Rattle.real.specs.Operations as float
@@ -15,8 +14,8 @@ use Rattle.algebra.specs.Algebra.{Algebra, zeroOf, oneOf}
 use Rattle.algebra.specs.Flat.{Layout, tabulate, decode, encode}
 use Rattle.algebra.specs.Loop.{upto}
 use Rattle.algebra.specs.Outcome.{value, refused}
-use Rattle.algebra.proofs.Flat.{decode-length, decode-size, record-there, decode-at, decode-store, encode-decode, decode-blank, tabulate-length, tabulate-at}
-use Rattle.algebra.proofs.Inside.{getD-inside}
+use Rattle.algebra.proofs.Cells.{held, holds, parts-of}
+use Rattle.algebra.proofs.Flat.{decode-length, decode-size, decode-blank, tabulate-length, tabulate-at}
 use Rattle.algebra.proofs.Loop.{upto-turn, upto-end}
 use Rattle.matrices.specs.Entries.{luRefusal, solveRefusal, inverseRefusal, countRefusal, swapsRefusal, determinantRefusal, LuLeft, luAnswered, luFinish, luLeft, solveAnswered, solveLeft, inverseLeft, determinantLeft}
 use Rattle.matrices.specs.Determinant.{diagonal, determinantOf}
@@ -31,40 +30,15 @@ use Rattle.matrices.specs.declared.Marks.{Marks}
 use Rattle.matrices.specs.declared.Step.{Step}
 use Rattle.matrices.specs.declared.Step.the-variants.{Singular, Going}
 use Rattle.matrices.proofs.Answers.{lu-fits, solve-fits, inverse-fits, determinant-fits, lu-done, solve-done, inverse-done, determinant-done, determinant-refused, finish-done, finish-singular}
-use Rattle.matrices.proofs.Fill.{Filled, filled-more, filled-all}
+use Rattle.floats.proofs.Fill.{Filled, filled-more, filled-all}
 use Rattle.matrices.proofs.Inner.{subtract-by, multiplier-stays, multiplier-is, forward-by, backRow-by}
-use Rattle.matrices.proofs.Laws.{Laws}
+use Rattle.algebra.proofs.Laws.{Laws}
 use Rattle.matrices.proofs.Lu.{run-stops}
 use Rattle.matrices.proofs.Odd.{odd-mod}
 use Rattle.matrices.proofs.Starts.{solve-by, inverse-by}
 use Rattle.matrices.proofs.Walk.{Marking, marking, mark-turn, mark-stop, mark-full, mark-odd}
 
 module _ {R : Type 0} {A : Algebra R} {L : Layout R} (Q : Laws A L) where
-  -- ---- records in floats
-
-  -- record p is one of those held
-  pub held : (l : List Float) (p : ℕ) → p * L .width + L .width ≤ length l → p < length (decode L l)
-  held l p h = let z = Q .lawful .positive in omega (arith, decode-length L (Q .lawful) l, record-there L (Q .lawful) l p (omega arith))
-
-  -- floats of k whole records hold k
-  pub holds : (l : List Float) (k : ℕ) → length l ≡ k * L .width → length (decode L l) ≡ k
-  holds l k h = decode-length L (Q .lawful) l ∙ decode-size L (Q .lawful) l k h
-
-  -- floats of k whole records are the parts of what they hold
-  pub parts-of : (l : List Float) (k : ℕ) (m : List R) → length l ≡ k * L .width → decode L l ≡ m → l ≡ encode L m
-  parts-of l k m h e = sym (encode-decode L (Q .lawful) l k h) ∙ ap (encode L) e
-
-  -- record p, from its floats as the code reads them (a float that is not there counts as e)
-  pub read-at : (l : List Float) (p : ℕ) (e : Float) → p * L .width + (L .width - 1) < length l → L .make (λ i. getD l (p * L .width + i) e) ≡ getD (decode L l) p (zeroOf A)
-  read-at l p e h =
-      let z = Q .lawful .positive in
-      Q .lawful .reads (λ i. getD l (p * L .width + i) e) (λ i. getD l (p * L .width + i) float.zero) (λ i b. getD-inside l (p * L .width + i) e float.zero (omega arith))
-      ∙ sym (decode-at L (Q .lawful) l p (zeroOf A) (record-there L (Q .lawful) l p h))
-
-  -- its parts stored are the record stored
-  pub write-at : (l : List Float) (p : ℕ) (x : R) → p * L .width + (L .width - 1) < length l → decode L (sets l (p * L .width) (L .parts x)) ≡ set (decode L l) p x
-  write-at l p x h = decode-store L (Q .lawful) l p x (record-there L (Q .lawful) l p h)
-
   -- ---- a loop over one lent buffer of records: before turn k, what is left to run gives the whole
 
   pub record Running (f : ℕ → List R → List R) (n : ℕ) (x₀ x : List Float) (k : ℕ) (whole : List R) : Type 0 where
@@ -111,7 +85,7 @@ module _ {R : Type 0} {A : Algebra R} {L : Layout R} (Q : Laws A L) where
   multiplier-stored n i j a a′ x r h e =
       let m : (j * n + i + 1) * L .width ≤ (j * n + n) * L .width = mul-le-mul-right (L .width) (omega arith) in
       let p : (j * n + i) * L .width + L .width ≤ length a = omega (arith, r .whole) in
-      ap (λ (l : List R). cell A n l j i) e ∙ multiplier-is A n (decode L a) j i x (held a (j * n + i) p)
+      ap (λ (l : List R). cell A n l j i) e ∙ multiplier-is A n (decode L a) j i x (held Q a (j * n + i) p)
 
   -- from the calls: the two records read, their quotient stored, the rest of the row
   pub reduced : (n i j : ℕ) (a a′ a″ : List Float) (u v x : R) → u ≡ getD (decode L a) (j * n + i) (zeroOf A) → v ≡ getD (decode L a) (i * n + i) (zeroOf A) → x ≡ A .div u v
@@ -268,7 +242,7 @@ module _ {R : Type 0} {A : Algebra R} {L : Layout R} (Q : Laws A L) where
       → decode L x′ ≡ set (decode L x) (i * stride + base) r → decode L x′ ≡ upto 0 i (eliminate A n (decode L a) stride base i) (decode L x)
   forwarded n stride base i a x x′ u r s h eu er e =
       e ∙ ap (set (decode L x) (i * stride + base)) (er ∙ ap (upto 0 i (less A n (decode L a) stride base i (decode L x))) eu)
-      ∙ sym (forward-by A n (decode L a) stride base (s .some) (decode L x) i (held x (i * stride + base) h))
+      ∙ sym (forward-by A n (decode L a) stride base (s .some) (decode L x) i (held Q x (i * stride + base) h))
 
   pub backed : (n stride base i : ℕ) (a x x′ : List Float) (u r v y : R) → Strided (L .width) n stride base x → (i * stride + base) * L .width + L .width ≤ length x
       → u ≡ getD (decode L x) (i * stride + base) (zeroOf A) → r ≡ upto (i + 1) n (less A n (decode L a) stride base i (decode L x)) u → v ≡ getD (decode L a) (i * n + i) (zeroOf A) → y ≡ A .div r v
@@ -276,7 +250,7 @@ module _ {R : Type 0} {A : Algebra R} {L : Layout R} (Q : Laws A L) where
   unfolding cell
   backed n stride base i a x x′ u r v y s h eu er ev ey e =
       e ∙ ap (set (decode L x) (i * stride + base)) (ey ∙ (λ t. A .div ((er ∙ ap (upto (i + 1) n (less A n (decode L a) stride base i (decode L x))) eu) t) (ev t)))
-      ∙ sym (backRow-by A n (decode L a) stride base (s .some) (decode L x) i (held x (i * stride + base) h))
+      ∙ sym (backRow-by A n (decode L a) stride base (s .some) (decode L x) i (held Q x (i * stride + base) h))
 
   -- the products of a row, taken from r
   abbrev pub Lessening : ℕ → List Float → List Float → ℕ → ℕ → ℕ → ℕ → ℕ → R → R → ℕ → Type 0
@@ -332,12 +306,12 @@ module _ {R : Type 0} {A : Algebra R} {L : Layout R} (Q : Laws A L) where
       → Starting f x₀ x′ (i + 1)
   start-turn f n x₀ x x′ i u t h z s eu e = record {
     size = s ∙ t .size;
-    filled = subst (λ (l : List R). Filled (zeroOf A) f l (i + 1)) (sym (e ∙ ap (set (decode L x) i) eu)) (filled-more (zeroOf A) f (decode L x) i (omega (arith, h, holds x n (t .size ∙ z))) (t .filled));
+    filled = subst (λ (l : List R). Filled (zeroOf A) f l (i + 1)) (sym (e ∙ ap (set (decode L x) i) eu)) (filled-more (zeroOf A) f (decode L x) i (omega (arith, h, holds Q x n (t .size ∙ z))) (t .filled));
   }
 
   pub start-end : (f : ℕ → R) (n : ℕ) (x₀ x : List Float) (i : ℕ) → Starting f x₀ x i → n ≤ i → length x₀ ≡ n * L .width → decode L x ≡ tabulate f n 0
   start-end f n x₀ x i t h z =
-      let k = holds x n (t .size ∙ z) in
+      let k = holds Q x n (t .size ∙ z) in
       filled-all (zeroOf A) f (decode L x) (tabulate f n 0) i (omega arith) (k ∙ sym (tabulate-length f n 0)) (t .filled) (λ j b. tabulate-at f n 0 j (zeroOf A) (omega arith) ∙ ap f (omega arith))
 
   pub solved : (n : ℕ) (a b x′ x″ : List Float) (p : List ℕ) → decode L x′ ≡ tabulate (startOf p b) n 0 → decode L x″ ≡ substituteFrom A n (decode L a) 1 0 (decode L x′)
@@ -395,7 +369,7 @@ module _ {R : Type 0} {A : Algebra R} {L : Layout R} (Q : Laws A L) where
   pub solve-answers : (n : ℕ) (f : List Float) (o : List ℕ) (b x x′ : List Float) (k : ℕ) → k ≡ solveRefusal (L .width) n (length f) o (length b) (length x) → k ≡ 0 → length x′ ≡ length x
       → decode L x′ ≡ solveOf A n (decode L f) o (decode L b) → solveAnswered (value tt) x′ ≡ solveLeft A L n f o b x
   solve-answers n f o b x x′ k e z h p =
-      ap (solveAnswered (value tt)) (parts-of x′ n _ (h ∙ solve-allowed n f o b x k e z .1 .1 .1) p) ∙ solve-done A L n f o b x (sym e ∙ z)
+      ap (solveAnswered (value tt)) (parts-of Q x′ n _ (h ∙ solve-allowed n f o b x k e z .1 .1 .1) p) ∙ solve-done A L n f o b x (sym e ∙ z)
 
   pub inverse-allowed : (n : ℕ) (f : List Float) (o : List ℕ) (x : List Float) (k : ℕ) → k ≡ inverseRefusal (L .width) n (length f) o (length x) → k ≡ 0
       → Square (L .width) n f × (Order n o × Square (L .width) n x)
@@ -406,7 +380,7 @@ module _ {R : Type 0} {A : Algebra R} {L : Layout R} (Q : Laws A L) where
   pub inverse-answers : (n : ℕ) (f : List Float) (o : List ℕ) (x x′ : List Float) (k : ℕ) → k ≡ inverseRefusal (L .width) n (length f) o (length x) → k ≡ 0 → length x′ ≡ length x
       → decode L x′ ≡ inverseOf A n (decode L f) o → solveAnswered (value tt) x′ ≡ inverseLeft A L n f o x
   inverse-answers n f o x x′ k e z h p =
-      ap (solveAnswered (value tt)) (parts-of x′ (n * n) _ (h ∙ inverse-allowed n f o x k e z .1 .1 .full) p) ∙ inverse-done A L n f o x (sym e ∙ z)
+      ap (solveAnswered (value tt)) (parts-of Q x′ (n * n) _ (h ∙ inverse-allowed n f o x k e z .1 .1 .full) p) ∙ inverse-done A L n f o x (sym e ∙ z)
 
   pub determinant-allowed : (n : ℕ) (f : List Float) (order k : ℕ) → k ≡ lengthsRefusal (L .width) n (length f) order → k ≡ 0 → Square (L .width) n f × (order ≡ n)
   determinant-allowed n f order k e z =

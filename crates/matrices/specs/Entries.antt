@@ -5,6 +5,8 @@ use mathlib.Core.List.{List}
 use lib.Dec.{ltb, eqb}
 use lib.ListN.{length, replicate}
 use lib.Ieee.{Float}
+use Rattle.refusals.specs.Largest as largest
+use Rattle.refusals.specs.Number as refusal
 use Rattle.real.specs.Operations as float
 use Rattle.algebra.specs.Algebra.{Algebra}
 use Rattle.algebra.specs.Flat.{Layout, decode, encode}
@@ -20,16 +22,16 @@ use Rattle.matrices.specs.Order.{isOrder, parity, isOdd, differ}
 -- of LU. 1: n above 32; 2: a lent length is not the one wanted
 abbrev pub luRefusal : ℕ → ℕ → ℕ → ℕ → ℕ → ℕ
 luRefusal w n a factors order =
-    cond (ltb 32 n) 1
-    (cond (eqb a (n * n * w) && (eqb factors (n * n * w) && eqb order n)) 0 2)
+    cond (ltb largest.n n) refusal.tooLarge
+    (cond (eqb a (n * n * w) && (eqb factors (n * n * w) && eqb order n)) 0 refusal.wrongLength)
 
 -- 7: the order is no permutation of 0..n-1
 abbrev pub orderRefusal : ℕ → List ℕ → ℕ
-orderRefusal n order = cond (isOrder n order) 0 7
+orderRefusal n order = cond (isOrder n order) 0 refusal.notAnOrder
 
 -- 8: the swap count is above 32, or of the other parity than an order that is odd or not
 abbrev pub countRefusal : Bool → ℕ → ℕ
-countRefusal odd swaps = cond (ltb 32 swaps || differ (isOdd swaps) odd) 8 0
+countRefusal odd swaps = cond (ltb largest.swaps swaps || differ (isOdd swaps) odd) refusal.wrongSwaps 0
 
 -- 8, beside that order
 abbrev pub swapsRefusal : List ℕ → ℕ → ℕ
@@ -38,20 +40,20 @@ swapsRefusal order swaps = countRefusal (parity order) swaps
 -- of solve. 1, 2, then 7
 abbrev pub solveRefusal : ℕ → ℕ → ℕ → List ℕ → ℕ → ℕ → ℕ
 solveRefusal w n factors order b x =
-    cond (ltb 32 n) 1
-    (cond (eqb factors (n * n * w) && (eqb (length order) n && (eqb b (n * w) && eqb x (n * w)))) (orderRefusal n order) 2)
+    cond (ltb largest.n n) refusal.tooLarge
+    (cond (eqb factors (n * n * w) && (eqb (length order) n && (eqb b (n * w) && eqb x (n * w)))) (orderRefusal n order) refusal.wrongLength)
 
 -- of inverse. 1, 2, then 7
 abbrev pub inverseRefusal : ℕ → ℕ → ℕ → List ℕ → ℕ → ℕ
 inverseRefusal w n factors order out =
-    cond (ltb 32 n) 1
-    (cond (eqb factors (n * n * w) && (eqb (length order) n && eqb out (n * n * w))) (orderRefusal n order) 2)
+    cond (ltb largest.n n) refusal.tooLarge
+    (cond (eqb factors (n * n * w) && (eqb (length order) n && eqb out (n * n * w))) (orderRefusal n order) refusal.wrongLength)
 
 -- of determinant. 1, 2, 7, then 8
 abbrev pub determinantRefusal : ℕ → ℕ → ℕ → List ℕ → ℕ → ℕ
 determinantRefusal w n factors order swaps =
-    cond (ltb 32 n) 1
-    (cond (eqb factors (n * n * w) && eqb (length order) n) (cond (isOrder n order) (swapsRefusal order swaps) 7) 2)
+    cond (ltb largest.n n) refusal.tooLarge
+    (cond (eqb factors (n * n * w) && eqb (length order) n) (cond (isOrder n order) (swapsRefusal order swaps) refusal.notAnOrder) refusal.wrongLength)
 
 -- what a call of LU leaves: done with the swap count or refused by a number, the column beside it, and both buffers
 pub record LuLeft : Type 0 where
@@ -75,7 +77,7 @@ module _ {R : Type 0} (A : Algebra R) (L : Layout R) (n : ℕ) where
   -- how a run ends: 6 with its column leaves both buffers zero
   abbrev pub luFinish : Run R → LuLeft
   luFinish (going a p swaps) = luAnswered (value swaps) 0 (encode L a) p
-  luFinish (singular c) = luAnswered (refused 6) c (replicate (n * n * L .width) float.zero) (replicate n 0)
+  luFinish (singular c) = luAnswered (refused refusal.singular) c (replicate (n * n * L .width) float.zero) (replicate n 0)
 
   -- lu(n, a, factors, order)
   unfoldable pub luLeft : List Float → List Float → List ℕ → LuLeft

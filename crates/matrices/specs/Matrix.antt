@@ -4,19 +4,20 @@ use mathlib.Core.Path.{_≡_}
 use mathlib.Core.List.{List}
 use lib.ListN.{getD, set, length}
 use lib.Ieee.{Float}
+use Rattle.refusals.specs.Largest as largest
 use Rattle.algebra.specs.Algebra.{Algebra, zeroOf}
 use Rattle.algebra.specs.Loop.{upto}
 
 -- flat floats that hold n by n records of w floats each, n at most 32
 pub record Square (w n : ℕ) (l : List Float) : Type 0 where
-  pub small : n ≤ 32
+  pub small : n ≤ largest.n
   pub some : 0 < w
   pub narrow : w ≤ 8
   pub full : length l ≡ n * n * w
 
 -- one of its rows: row i, whole in the floats
 pub record Row (w n i : ℕ) (l : List Float) : Type 0 where
-  pub small : n ≤ 32
+  pub small : n ≤ largest.n
   pub below : i < n
   pub start : i * n ≤ 1024
   pub whole : (i * n + n) * w ≤ length l

@@ -4,6 +4,7 @@ use mathlib.Core.Path.{_≡_}
 use mathlib.Core.List.{List}
 use lib.ListN.{length}
 use lib.Ieee.{Float}
+use Rattle.refusals.specs.Number as refusal
 use Rattle.algebra.specs.Flat.{realParts}
 use Rattle.algebra.specs.Outcome.{Outcome, value, refused}
 use Rattle.matrices.specs.Entries.{LuLeft, SolveLeft}
@@ -16,7 +17,7 @@ pub record Alike (w : ℕ) (l l′ : List Float) : Type 0 where
 -- the call wrote: it is done, or refused 6
 abbrev pub Wrote : {R : Type 0} → Outcome R → Type 0
 Wrote (value x) = Unit {0}
-Wrote (refused number) = number ≡ 6
+Wrote (refused number) = number ≡ refusal.singular
 
 -- two calls of LU, at w floats a record
 pub record SameLu (w : ℕ) (x y : LuLeft) : Type 0 where

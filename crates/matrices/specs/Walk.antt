@@ -3,6 +3,8 @@ use Prim.Native.Nat.{ℕ, _+_, _-_, _*_, _/_, _%_, _^_}
 use mathlib.Core.Bool.{Bool, cond, _&&_}
 use lib.Bits.{bitXor}
 use lib.Dec.{ltb, eqb}
+use Rattle.refusals.specs.Largest as largest
+use Rattle.refusals.specs.Number as refusal
 use Rattle.matrices.specs.Entries.{countRefusal}
 use Rattle.matrices.specs.declared.Marks.{Marks}
 
@@ -29,9 +31,9 @@ isFull n word = eqb (word / 2 ^ 32) (2 ^ n - 1)
 -- 1 and 2 of determinant
 abbrev pub lengthsRefusal : ℕ → ℕ → ℕ → ℕ → ℕ
 lengthsRefusal w n factors order =
-    cond (ltb 32 n) 1
-    (cond (eqb factors (n * n * w) && eqb order n) 0 2)
+    cond (ltb largest.n n) refusal.tooLarge
+    (cond (eqb factors (n * n * w) && eqb order n) 0 refusal.wrongLength)
 
 -- 7 and 8 of determinant, by what the walk has marked
 abbrev pub walkedRefusal : ℕ → Marks → ℕ → ℕ
-walkedRefusal n m swaps = cond (isFull n (m .word)) (countRefusal (eqb (m .pairs % 2) 1) swaps) 7
+walkedRefusal n m swaps = cond (isFull n (m .word)) (countRefusal (eqb (m .pairs % 2) 1) swaps) refusal.notAnOrder

@@ -1,6 +1,5 @@
 // What LU, solve, determinant and inverse share whatever the record: code that knows only a record's width in floats and the real parts.
 // Inner: for the crates that hold the entries. Its functions have a `requires`, which those crates show.
-pub mod floats;
 pub mod order;
 pub mod refusal;
 pub mod rows;

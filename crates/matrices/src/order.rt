@@ -3,6 +3,7 @@ use super::Marks;
 ghost use mathlib.Core.Path.{_≡_};
 ghost use Prim.Native.Nat.{_<_, _≤_};
 ghost use lib.ListN.{length, replicate};
+ghost use Rattle.refusals.specs.Largest as largest;
 ghost use Rattle.matrices.specs.Matrix.{exchange};
 ghost use Rattle.matrices.specs.Lu.{numbers};
 ghost use Rattle.matrices.specs.Order.{isOrder, differ};
@@ -61,7 +62,7 @@ pub fn mark(m: Marks, x: usize) -> Marks
 
 // The numbers below n have come, each an odd number of times, and no others.
 pub(crate) fn is_full(n: usize, word: u64) -> bool
-    requires { ⌜ n ≤ 32 ⌝ }
+    requires { ⌜ n ≤ largest.n ⌝ }
     ensures { λ r. ⌜ r ≡ isFull n word ⌝ }
 {
     word >> 32 == (1 << n) - 1
@@ -69,7 +70,7 @@ pub(crate) fn is_full(n: usize, word: u64) -> bool
 
 // Every number is below n, and no two are equal.
 pub(crate) fn is_order(n: usize, order: &[usize]) -> bool
-    requires { ⌜ n ≤ 32 ⌝ }
+    requires { ⌜ n ≤ largest.n ⌝ }
     requires { ⌜ length (now order) ≡ n ⌝ }
     ensures { λ r. ⌜ r ≡ isOrder n (now (order .entry)) ⌝ }
 {

@@ -4,6 +4,7 @@ use super::order;
 ghost use mathlib.Core.Path.{_≡_};
 ghost use Prim.Native.Nat.{_≤_};
 ghost use lib.ListN.{length};
+ghost use Rattle.refusals.specs.Largest as largest;
 ghost use Rattle.matrices.specs.Entries.{luRefusal, orderRefusal, countRefusal, solveRefusal, inverseRefusal};
 ghost use Rattle.matrices.specs.Walk.{lengthsRefusal, walkedRefusal};
 
@@ -12,32 +13,32 @@ pub fn lu(w: usize, n: usize, a: usize, factors: usize, order: usize) -> u32
     requires { ⌜ w ≤ 8 ⌝ }
     ensures { λ r. ⌜ r ≡ luRefusal w n a factors order ⌝ }
 {
-    if algebra::LARGEST_N < n {
-        return algebra::TOO_LARGE;
+    if refusals::LARGEST_N < n {
+        return refusals::TOO_LARGE;
     }
     let full = n * n * w;
     if a != full {
-        return algebra::WRONG_LENGTH;
+        return refusals::WRONG_LENGTH;
     }
     if factors != full {
-        return algebra::WRONG_LENGTH;
+        return refusals::WRONG_LENGTH;
     }
     if order != n {
-        return algebra::WRONG_LENGTH;
+        return refusals::WRONG_LENGTH;
     }
     0
 }
 
 // Of an order as long as it must be.
 fn not_an_order(n: usize, order: &[usize]) -> u32
-    requires { ⌜ n ≤ 32 ⌝ }
+    requires { ⌜ n ≤ largest.n ⌝ }
     requires { ⌜ length (now order) ≡ n ⌝ }
     ensures { λ r. ⌜ r ≡ orderRefusal n (now (order .entry)) ⌝ }
 {
     if order::is_order(n, order) {
         0
     } else {
-        algebra::NOT_AN_ORDER
+        refusals::NOT_AN_ORDER
     }
 }
 
@@ -46,20 +47,20 @@ pub fn solve(w: usize, n: usize, factors: usize, order: &[usize], b: usize, x: u
     requires { ⌜ w ≤ 8 ⌝ }
     ensures { λ r. ⌜ r ≡ solveRefusal w n factors (now (order .entry)) b x ⌝ }
 {
-    if algebra::LARGEST_N < n {
-        return algebra::TOO_LARGE;
+    if refusals::LARGEST_N < n {
+        return refusals::TOO_LARGE;
     }
     if factors != n * n * w {
-        return algebra::WRONG_LENGTH;
+        return refusals::WRONG_LENGTH;
     }
     if order.len() != n {
-        return algebra::WRONG_LENGTH;
+        return refusals::WRONG_LENGTH;
     }
     if b != n * w {
-        return algebra::WRONG_LENGTH;
+        return refusals::WRONG_LENGTH;
     }
     if x != n * w {
-        return algebra::WRONG_LENGTH;
+        return refusals::WRONG_LENGTH;
     }
     not_an_order(n, order)
 }
@@ -69,18 +70,18 @@ pub fn inverse(w: usize, n: usize, factors: usize, order: &[usize], out: usize) 
     requires { ⌜ w ≤ 8 ⌝ }
     ensures { λ r. ⌜ r ≡ inverseRefusal w n factors (now (order .entry)) out ⌝ }
 {
-    if algebra::LARGEST_N < n {
-        return algebra::TOO_LARGE;
+    if refusals::LARGEST_N < n {
+        return refusals::TOO_LARGE;
     }
     let full = n * n * w;
     if factors != full {
-        return algebra::WRONG_LENGTH;
+        return refusals::WRONG_LENGTH;
     }
     if order.len() != n {
-        return algebra::WRONG_LENGTH;
+        return refusals::WRONG_LENGTH;
     }
     if out != full {
-        return algebra::WRONG_LENGTH;
+        return refusals::WRONG_LENGTH;
     }
     not_an_order(n, order)
 }
@@ -90,14 +91,14 @@ pub fn determinant(w: usize, n: usize, factors: usize, order: usize) -> u32
     requires { ⌜ w ≤ 8 ⌝ }
     ensures { λ r. ⌜ r ≡ lengthsRefusal w n factors order ⌝ }
 {
-    if algebra::LARGEST_N < n {
-        return algebra::TOO_LARGE;
+    if refusals::LARGEST_N < n {
+        return refusals::TOO_LARGE;
     }
     if factors != n * n * w {
-        return algebra::WRONG_LENGTH;
+        return refusals::WRONG_LENGTH;
     }
     if order != n {
-        return algebra::WRONG_LENGTH;
+        return refusals::WRONG_LENGTH;
     }
     0
 }
@@ -106,23 +107,23 @@ pub fn determinant(w: usize, n: usize, factors: usize, order: usize) -> u32
 fn swap_count(odd: bool, swaps: usize) -> u32
     ensures { λ r. ⌜ r ≡ countRefusal odd swaps ⌝ }
 {
-    if 32 < swaps {
-        return algebra::WRONG_SWAPS;
+    if refusals::LARGEST_SWAPS < swaps {
+        return refusals::WRONG_SWAPS;
     }
     if order::differs(swaps % 2 == 1, odd) {
-        return algebra::WRONG_SWAPS;
+        return refusals::WRONG_SWAPS;
     }
     0
 }
 
 // Of an order that was walked over to its end, and of the swap count beside it.
 pub fn walked(n: usize, m: Marks, swaps: usize) -> u32
-    requires { ⌜ n ≤ 32 ⌝ }
+    requires { ⌜ n ≤ largest.n ⌝ }
     ensures { λ r. ⌜ r ≡ walkedRefusal n m swaps ⌝ }
 {
     if order::is_full(n, m.word) {
         swap_count(m.pairs % 2 == 1, swaps)
     } else {
-        algebra::NOT_AN_ORDER
+        refusals::NOT_AN_ORDER
     }
 }

@@ -9,7 +9,7 @@ use lib.Ieee.{Float, nan}
 use native.Mathlib.Omega.{arith}
 use Rattle.algebra.specs.Flat.{tabulate}
 use Rattle.algebra.proofs.Flat.{tabulate-length, tabulate-at}
-use Rattle.matrices.proofs.Fill.{Filled, filled-more, filled-all}
+use Rattle.floats.proofs.Fill.{Filled, filled-more, filled-all}
 use Rattle.replay_jacobi.specs.Runs.{spoiledAt, spoiledOf}
 use borrow.Author.Needs.{needs}
 use Rattle.replay_jacobi.proofs.spoil.Statement.{statement}

@@ -6,7 +6,7 @@ use lib.ListN.{length, getD, length-set}
 use native.Mathlib.Omega.{arith}
 use Rattle.algebra.specs.Flat.{tabulate}
 use Rattle.algebra.proofs.Flat.{tabulate-length, tabulate-at}
-use Rattle.matrices.proofs.Fill.{Filled, filled-more, filled-all}
+use Rattle.floats.proofs.Fill.{Filled, filled-more, filled-all}
 use borrow.Author.Needs.{needs}
 use Rattle.replay_matrices.proofs.order_of.Statement.{statement}
 use Rattle.replay_matrices.proofs.order_of.Tie as tie

@@ -7,7 +7,7 @@ use lib.ListN.{length, getD, set, length-set}
 use native.Mathlib.Omega.{arith}
 use Rattle.algebra.specs.Flat.{tabulate}
 use Rattle.algebra.proofs.Flat.{tabulate-length, tabulate-at}
-use Rattle.matrices.proofs.Fill.{Filled, filled-more, filled-all}
+use Rattle.floats.proofs.Fill.{Filled, filled-more, filled-all}
 use Rattle.replay_table.specs.Table.{recordOf}
 use borrow.Author.Needs.{needs}
 use Rattle.replay_table.proofs.record_of.Statement.{statement}

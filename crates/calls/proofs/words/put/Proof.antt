@@ -6,7 +6,7 @@ use lib.ListN.{length, getD, length-set, length-map, List·getD-map}
 use lib.Ieee.{binary64, nan, toBits}
 use native.Mathlib.Omega.{arith}
 use Rattle.algebra.proofs.Inside.{getD-inside}
-use Rattle.matrices.proofs.Fill.{Filled, filled-more, filled-all}
+use Rattle.floats.proofs.Fill.{Filled, filled-more, filled-all}
 use Rattle.calls.proofs.words.put.Statement.{statement}
 use Rattle.calls.proofs.words.put.Tie as tie
 

@@ -3,7 +3,7 @@ use Prim.Native.Nat.{ℕ, _-_}
 use denote.Ref.{now}
 use lib.ListN.{length, replicate, length-set, length-replicate, getD-replicate}
 use native.Mathlib.Omega.{arith}
-use Rattle.matrices.proofs.Fill.{Filled, filled-more, filled-all}
+use Rattle.floats.proofs.Fill.{Filled, filled-more, filled-all}
 use Rattle.matrices.proofs.order.clear.Statement.{statement}
 use Rattle.matrices.proofs.order.clear.Tie as tie
 

@@ -3,7 +3,7 @@ use Prim.Native.Nat.{_-_}
 use denote.Ref.{now}
 use lib.ListN.{length, length-set}
 use native.Mathlib.Omega.{arith}
-use Rattle.matrices.proofs.Fill.{Filled, filled-more, filled-all}
+use Rattle.floats.proofs.Fill.{Filled, filled-more, filled-all}
 use Rattle.algebra.proofs.Flat.{tabulate-length, tabulate-at}
 use Rattle.matrices.specs.Lu.{numbers}
 use Rattle.matrices.proofs.order.number.Statement.{statement}

@@ -4,10 +4,10 @@ use denote.Ref.{now}
 use lib.ListN.{length, replicate, length-set, length-replicate, getD-replicate}
 use lib.Ieee.{nan}
 use native.Mathlib.Omega.{arith}
-use Rattle.matrices.proofs.Fill.{Filled, filled-more, filled-all}
+use Rattle.floats.proofs.Fill.{Filled, filled-more, filled-all}
 use Rattle.real.specs.Operations.{zero}
-use Rattle.matrices.proofs.floats.clear.Statement.{statement}
-use Rattle.matrices.proofs.floats.clear.Tie as tie
+use Rattle.floats.proofs.clear.Statement.{statement}
+use Rattle.floats.proofs.clear.Tie as tie
 
 abbrev Inv-loop : tie.InvT-loop
 Inv-loop to₀ i₀ to i = (length to ≡ length to₀) × Filled nan (λ k. zero) to i

@@ -4,9 +4,9 @@ use denote.Ref.{now}
 use lib.ListN.{length, getD, length-set}
 use lib.Ieee.{nan}
 use native.Mathlib.Omega.{arith}
-use Rattle.matrices.proofs.Fill.{Filled, filled-more, filled-all}
-use Rattle.matrices.proofs.floats.copy.Statement.{statement}
-use Rattle.matrices.proofs.floats.copy.Tie as tie
+use Rattle.floats.proofs.Fill.{Filled, filled-more, filled-all}
+use Rattle.floats.proofs.copy.Statement.{statement}
+use Rattle.floats.proofs.copy.Tie as tie
 
 abbrev Inv-loop : tie.InvT-loop
 Inv-loop from to₀ i₀ to i = (length to ≡ length to₀) × Filled nan (λ k. getD from k nan) to i

@@ -1,0 +1,22 @@
+-- Document 01's limits: the largest that is not refused. Definitions only.
+use Prim.Native.Nat.{ℕ}
+use lib.IntN.{ℤ, pos, negsuc}
+
+-- of the n of a matrix
+abbrev pub n : ℕ
+n = 32
+
+-- of a limit of sweeps
+abbrev pub limit : ℕ
+limit = 1000
+
+-- of powi's exponent, and the least: -1024
+abbrev pub exponent : ℤ
+exponent = pos 1024
+
+abbrev pub leastExponent : ℤ
+leastExponent = negsuc 1023
+
+-- of a determinant's swap count
+abbrev pub swaps : ℕ
+swaps = 32
