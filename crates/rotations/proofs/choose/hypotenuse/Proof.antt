@@ -1,17 +1,13 @@
-use mathlib.Core.Path.{ap, _∙_}
-use Rattle.real.specs.Operations.{one}
-use Rattle.algebra.specs.Algebra.{addFloat}
-use Rattle.derivatives.specs.Apply.{sqrtOf}
-use Rattle.dual.specs.Rules.{dualAlgebra}
-use Rattle.dual.specs.declared.Dual.{Dual}
-use Rattle.rotations.specs.Rotation.{hypotenuseOf}
+-- The body is the definition's own operations in its order, so that equal arguments give equal results.
 use borrow.Author.Needs.{needs}
+use Rattle.rotations.specs.Rotation.{hypotenuseOf}
 use Rattle.rotations.proofs.choose.hypotenuse.Statement.{statement}
 use Rattle.rotations.proofs.choose.hypotenuse.Tie as tie
 
+-- the root of the square and one
 returns : tie.Need-returns
 unfolding hypotenuseOf
-returns c = c .sqrt .ensures ∙ ap (sqrtOf dualAlgebra) (c .before .add-float .ensures ∙ ap (λ (y : Dual). addFloat dualAlgebra y one) (c .before .before .mul .ensures))
+returns c = cc
 
 pub hypotenuse-spec : {M : Type 1} → statement M
 hypotenuse-spec = tie.close (tie.spec

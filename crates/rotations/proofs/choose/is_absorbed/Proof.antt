@@ -1,17 +1,13 @@
-use mathlib.Core.Path.{ap, _∙_}
-use lib.Ieee.{eq}
-use Rattle.dual.specs.Rules.{dualAdd}
-use Rattle.rotations.specs.Rotation.{absorbed}
+-- The body is the definition's own operations in its order, so that equal arguments give equal results.
 use borrow.Author.Needs.{needs}
+use Rattle.rotations.specs.Rotation.{absorbed}
 use Rattle.rotations.proofs.choose.is_absorbed.Statement.{statement}
 use Rattle.rotations.proofs.choose.is_absorbed.Tie as tie
 
+-- the sum's real part against the magnitude's
 returns : tie.Need-returns
 unfolding absorbed
-returns c =
-    let size = c .before .before .abs .ensures in
-    let sum = c .before .add .ensures ∙ ap (dualAdd (c .before .before .before .args .gapq)) size in
-    c .eq .ensures ∙ (λ i. eq (sum i .re) (size i .re))
+returns c = cc
 
 pub is-absorbed-spec : {M : Type 1} → statement M
 is-absorbed-spec = tie.close (tie.spec

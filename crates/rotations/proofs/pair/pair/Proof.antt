@@ -1,29 +1,40 @@
-use native.Mathlib.Omega.{arith}
-use Rattle.dual.specs.Rules.{dualAlgebra}
-use Rattle.rotations.proofs.Calls.{pair-keep, pair-clear, pair-rotate}
+-- Each arm of the match is a case of the definition's choice, which was made from the entry and the two diagonal entries as they were.
 use borrow.Author.Needs.{needs}
+use denote.Ref.{now}
+use Rattle.dual.specs.Rules.{dualAlgebra}
+use Rattle.dual_cells.specs.Records.{records}
+use Rattle.rotations.proofs.Kept.{sized-kept}
+use Rattle.rotations.proofs.Turned.{Entries, pair-keep, pair-clear, pair-rotate}
 use Rattle.rotations.proofs.pair.pair.Statement.{statement}
 use Rattle.rotations.proofs.pair.pair.Tie as tie
 
+-- what was read
+read : (c : tie.After-read2) → let s = c .before .before .before .before .before .before .before .before .before .before .args in
+    Entries dualAlgebra (s .n) (s .p) (s .q) (records (now (s .a))) (records (now (s .d))) (c .before .before .before .before .get .result) (c .before .before .read .result) (c .read2 .result)
+read c = record { entry = search needs; first = search needs; second = search needs }
+
+-- what the caller showed, which lies too far back for a search
 rotate-requires : tie.Need-rotate-requires
 rotate-requires c κs = let s = c .before .before .before .before .before .before .before .before .before .before .before .before .before .before .before .before .before .before .pre in (s .0, (s .1 .0, s .1 .1))
 
+-- kept: all is as it was
 returns : tie.Need-returns
-returns c = (c .before .before .before .before .before .before .before .before .before .before .before .before .before .pre .0, (pair-keep dualAlgebra _ _ _ _ _ _ _ _ _ _ (c .before .before .before .before .before .before .before .get .ensures) (c .before .before .before .before .before .read .ensures) (c .before .before .before .read2 .ensures) (c .before .before .choose .ensures) (c .enum-told .given .1), omega arith))
+returns c =
+    let at = c .before .before in
+    (at .before .before .before .before .before .before .before .before .before .before .before .pre .0, (pair-keep dualAlgebra _ _ _ _ _ _ _ _ _ _ _ _ _ _ (read (at .before)) (at .choose .ensures) (c .enum-told .given .1), search needs))
 
+-- cleared: the entry alone is zero
 returns-2 : tie.Need-returns-2
 returns-2 c =
-    let s = c .before .before .before .before .before .before .before .before .before .before .before .before .before .before .before .before .before .pre .0 in
-    let p = c .before .before .put .ensures in (
-      record { matrix = p .0; vectors = s .vectors; values = s .values; gains = s .gains },
-      (pair-clear dualAlgebra _ _ _ _ _ _ _ _ _ _ (c .before .before .before .before .before .before .before .before .before .before .before .get .ensures) (c .before .before .before .before .before .before .before .before .before .read .ensures) (c .before .before .before .before .before .before .before .read2 .ensures) (c .before .before .before .before .before .before .choose .ensures) _ (c .before .before .before .before .enum-told2 .given .1) (p .1), omega arith),
-    )
+    let at = c .before .before .before .before .before .before in
+    let sized = at .before .before .before .before .before .before .before .before .before .before .before .pre .0 in
+    (search (needs, sized-kept), (pair-clear dualAlgebra _ _ _ _ _ _ _ _ _ _ _ _ _ _ (read (at .before)) (at .choose .ensures) _ (c .before .before .before .before .enum-told2 .given .1) (search needs), search needs))
 
+-- rotated: by the angle of the three entries
 returns-3 : tie.Need-returns-3
 returns-3 c =
-    let r = c .before .before .before .before .before .before .before .before .rotate .ensures in
-    let more = r .1 .1 in
-    (r .0, (pair-rotate dualAlgebra _ _ _ _ _ _ _ _ _ _ (c .before .before .before .before .before .before .before .before .before .before .before .before .before .before .before .before .before .before .before .before .before .get .ensures) (c .before .before .before .before .before .before .before .before .before .before .before .before .before .before .before .before .before .before .before .read .ensures) (c .before .before .before .before .before .before .before .before .before .before .before .before .before .before .before .before .before .read2 .ensures) (c .before .before .before .before .before .before .before .before .before .before .before .before .before .before .before .before .choose .ensures) _ _ (c .before .before .before .before .before .before .before .before .before .before .before .before .before .before .enum-told3 .given .1) (c .before .before .before .before .before .before .before .before .before .before .before .before .before .angle .ensures) (r .1 .0), omega arith))
+    let at = c .before .before .before .before .before .before .before .before .before .before .before .before .before .before .before .before in
+    (search needs, (pair-rotate dualAlgebra _ _ _ _ _ _ _ _ _ _ _ _ _ _ (read (at .before)) (at .choose .ensures) _ _ (c .before .before .before .before .before .before .before .before .before .before .before .before .before .before .enum-told3 .given .1) (c .before .before .before .before .before .before .before .before .before .before .before .before .before .angle .ensures) (search needs), search needs))
 
 pub pair-spec : {M : Type 1} → statement M
 pair-spec =

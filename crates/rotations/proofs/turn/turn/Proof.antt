@@ -1,8 +1,10 @@
+-- The body is the definition's own steps in its order: both entries are read before either is written.
 use Rattle.rotations.specs.Rotation.{turn}
 use borrow.Author.Needs.{needs}
 use Rattle.rotations.proofs.turn.turn.Statement.{statement}
 use Rattle.rotations.proofs.turn.turn.Tie as tie
 
+-- the two entries written, from what was read
 returns : tie.Need-returns
 unfolding turn
 returns c = (search needs, cc)

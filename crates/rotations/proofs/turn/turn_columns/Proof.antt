@@ -1,44 +1,32 @@
-use Prim.Native.Nat.{_-_, _≤_}
-use mathlib.Core.Path.{_≡_, refl}
-use native.Mathlib.Omega.{arith}
+-- The loop keeps: what is left to turn gives the columns whole.
 use borrow.Author.Needs.{needs}
-use Rattle.algebra.specs.Loop.{upto}
-use Rattle.algebra.proofs.Loop.{upto-turn, upto-end}
+use Prim.Native.Nat.{_-_}
 use Rattle.dual.specs.Rules.{dualAlgebra}
+use Rattle.dual_cells.proofs.Cells.{dual-laws}
 use Rattle.dual_cells.specs.Records.{records}
+use Rattle.matrices.proofs.Turns.{Running, run-turn, run-end}
 use Rattle.matrices.specs.Matrix.{Square}
 use Rattle.rotations.specs.Rotation.{turn, turnColumns}
 use Rattle.rotations.proofs.turn.turn_columns.Statement.{statement}
 use Rattle.rotations.proofs.turn.turn_columns.Tie as tie
 
 abbrev Inv-loop : tie.InvT-loop
-Inv-loop n a₀ s tau p q rows j₀ a j = (j ≤ rows) × (Square 2 n a × (upto j rows (λ j. turn dualAlgebra n s tau j p j q) (records a) ≡ turnColumns dualAlgebra n s tau p q rows (records a₀)))
+Inv-loop n a₀ s tau p q rows j₀ a j = Square 2 n a × Running dual-laws (λ j. turn dualAlgebra n s tau j p j q) rows a₀ a j (turnColumns dualAlgebra n s tau p q rows (records a₀))
 
 abbrev μ-loop : tie.MeasureT-loop
 μ-loop n a₀ s tau p q rows j₀ a j = rows - j
 
+-- before the first turn the whole is left to run
 loop-holds : tie.Need-loop-holds Inv-loop μ-loop
 unfolding turnColumns
-loop-holds c = (omega arith, (search needs, refl))
-
-turn-requires : tie.Need-turn-requires Inv-loop μ-loop
-turn-requires c κs = (search needs, (omega arith, omega arith))
-
-loop-again : tie.Need-loop-again Inv-loop μ-loop
-loop-again c =
-    let at = c .before .before .before .before .before in
-    (omega arith, (search needs, upto-turn (at .loop .j) _ _ (records (at .loop .a)) _ (c .before .before .before .before .loop-test .taken) (c .before .before .turn .ensures .1) (at .loop .inv .1 .1)))
-
-returns : tie.Need-returns Inv-loop μ-loop
-returns c = (search needs, upto-end (c .before .loop .j) _ _ _ (c .loop-test .left) (c .before .loop .inv .1 .1))
+loop-holds c = search needs
 
 pub turn-columns-spec : {M : Type 1} → statement M
 turn-columns-spec =
     tie.close
     (tie.spec Inv-loop μ-loop
     loop-holds
-    turn-requires
-    (λ c. search needs) (λ c. search needs)
-    loop-again
-    (λ c. omega arith)
-    returns)
+    (λ c κs. search needs) (λ c. search needs) (λ c. search needs)
+    (λ c. search (needs, run-turn dual-laws))
+    (λ c. search needs)
+    (λ c. search (needs, run-end dual-laws)))

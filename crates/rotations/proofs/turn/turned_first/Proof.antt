@@ -1,8 +1,10 @@
+-- The body is the definition's own operations in its order, so that equal arguments give equal results.
 use Rattle.rotations.specs.Rotation.{turnedFirst}
 use borrow.Author.Needs.{needs}
 use Rattle.rotations.proofs.turn.turned_first.Statement.{statement}
 use Rattle.rotations.proofs.turn.turned_first.Tie as tie
 
+-- g less s times a sum
 returns : tie.Need-returns
 unfolding turnedFirst
 returns c = cc
