@@ -22,8 +22,14 @@ pub mod Answers
 -- beside demand 3, of what the entries leave: previous contents and refusals, and that what LU left is accepted
 mod PreviousContents
 mod AfterLu
--- the code over a record, function by function
+-- the code over a record, function by function: its loops' invariants, a turn of each, and what a function's calls amount to
 pub mod Turns
+pub mod RowsReduced
+pub mod ColumnsRun
+pub mod DiagonalWalk
+pub mod Substitution
+pub mod StartsWritten
+pub mod EntriesAnswered
 -- the entries by what their contracts say
 pub mod Calls
 -- the readings of an answer leave one number and one column

@@ -1,5 +1,5 @@
 use borrow.Author.Needs.{needs}
-use Rattle.matrices.proofs.Turns.{determinant-allowed, determinant-unfit}
+use Rattle.matrices.proofs.EntriesAnswered.{determinant-allowed, determinant-unfit}
 use Rattle.hyperdual_cells.proofs.Cells.{hyper-dual-laws}
 use Rattle.hyperdual_lu.proofs.determinant.Statement.{statement}
 use Rattle.hyperdual_lu.proofs.determinant.Tie as tie

@@ -1,7 +1,7 @@
 use borrow.Author.Needs.{needs}
 use mathlib.Core.Path.{ap, _∙_}
 use Rattle.matrices.specs.Lu.{numbers}
-use Rattle.matrices.proofs.Turns.{factor-done, factor-singular}
+use Rattle.matrices.proofs.ColumnsRun.{factor-done, factor-singular}
 use Rattle.hyperdual_cells.proofs.Cells.{hyper-dual-laws}
 use Rattle.hyperdual_lu.proofs.factor.Statement.{statement}
 use Rattle.hyperdual_lu.proofs.factor.Tie as tie

@@ -1,7 +1,7 @@
 use borrow.Author.Needs.{needs}
 use Rattle.hyperdual.specs.Rules.{hyperDualAlgebra, hyperDualLayout}
 use Rattle.matrices.proofs.Answers.{inverse-refused}
-use Rattle.matrices.proofs.Turns.{inverse-allowed, inverse-answers}
+use Rattle.matrices.proofs.EntriesAnswered.{inverse-allowed, inverse-answers}
 use Rattle.hyperdual_cells.proofs.Cells.{hyper-dual-laws}
 use Rattle.hyperdual_lu.proofs.inverse.Statement.{statement}
 use Rattle.hyperdual_lu.proofs.inverse.Tie as tie

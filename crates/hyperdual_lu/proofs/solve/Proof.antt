@@ -2,7 +2,7 @@ use borrow.Author.Needs.{needs}
 use denote.Ref.{now}
 use Rattle.hyperdual.specs.Rules.{hyperDualAlgebra, hyperDualLayout}
 use Rattle.matrices.proofs.Answers.{solve-refused}
-use Rattle.matrices.proofs.Turns.{solve-allowed, solve-answers}
+use Rattle.matrices.proofs.EntriesAnswered.{solve-allowed, solve-answers}
 use Rattle.hyperdual_cells.proofs.Cells.{hyper-dual-laws}
 use Rattle.hyperdual_lu.proofs.solve.Statement.{statement}
 use Rattle.hyperdual_lu.proofs.solve.Tie as tie

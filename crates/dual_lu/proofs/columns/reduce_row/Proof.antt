@@ -1,5 +1,5 @@
 use borrow.Author.Needs.{needs}
-use Rattle.matrices.proofs.Turns.{multiplier-stored, reduced}
+use Rattle.matrices.proofs.RowsReduced.{multiplier-stored, reduced}
 use Rattle.dual_cells.proofs.Cells.{dual-laws}
 use Rattle.dual_lu.proofs.columns.reduce_row.Statement.{statement}
 use Rattle.dual_lu.proofs.columns.reduce_row.Tie as tie

@@ -7,7 +7,7 @@ use Rattle.dual.specs.Rules.{dualAlgebra, dualLayout}
 use Rattle.matrices.specs.Lu.{going, reduceRun, column}
 use Rattle.matrices.specs.Steps.{runAfter, swapsOf}
 use Rattle.matrices.proofs.RowsOfRecords.{column-by}
-use Rattle.matrices.proofs.Turns.{column-stops, column-goes}
+use Rattle.matrices.proofs.ColumnsRun.{column-stops, column-goes}
 use Rattle.dual_cells.proofs.Cells.{dual-laws}
 use Rattle.dual_lu.proofs.columns.run_column.Statement.{statement}
 use Rattle.dual_lu.proofs.columns.run_column.Tie as tie

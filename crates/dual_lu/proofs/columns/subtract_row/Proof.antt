@@ -1,6 +1,6 @@
 use borrow.Author.Needs.{needs}
 use Prim.Native.Nat.{_-_}
-use Rattle.matrices.proofs.Turns.{Subtracting, subtract-start, subtract-turn, subtract-end}
+use Rattle.matrices.proofs.RowsReduced.{Subtracting, subtract-start, subtract-turn, subtract-end}
 use Rattle.dual_cells.proofs.Cells.{dual-laws}
 use Rattle.dual_lu.proofs.columns.subtract_row.Statement.{statement}
 use Rattle.dual_lu.proofs.columns.subtract_row.Tie as tie

@@ -1,5 +1,5 @@
 use borrow.Author.Needs.{needs}
-use Rattle.matrices.proofs.Turns.{backed}
+use Rattle.matrices.proofs.Substitution.{backed}
 use Rattle.dual_cells.proofs.Cells.{dual-laws}
 use Rattle.dual_lu.proofs.substitution.back_row.Statement.{statement}
 use Rattle.dual_lu.proofs.substitution.back_row.Tie as tie

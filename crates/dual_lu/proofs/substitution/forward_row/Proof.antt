@@ -1,5 +1,5 @@
 use borrow.Author.Needs.{needs}
-use Rattle.matrices.proofs.Turns.{forwarded}
+use Rattle.matrices.proofs.Substitution.{forwarded}
 use Rattle.dual_cells.proofs.Cells.{dual-laws}
 use Rattle.dual_lu.proofs.substitution.forward_row.Statement.{statement}
 use Rattle.dual_lu.proofs.substitution.forward_row.Tie as tie

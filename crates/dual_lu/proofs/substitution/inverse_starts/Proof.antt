@@ -6,7 +6,8 @@ use native.Mathlib.Omega.{arith}
 use Rattle.matrices.specs.Matrix.{Square, Row}
 use Rattle.matrices.proofs.Permutation.{order-below}
 use Rattle.matrices.proofs.Places.{row-of}
-use Rattle.matrices.proofs.Turns.{Ones, ones-start, ones-turn, run-end}
+use Rattle.matrices.proofs.Turns.{run-end}
+use Rattle.matrices.proofs.StartsWritten.{Ones, ones-start, ones-turn}
 use Rattle.dual_cells.proofs.Cells.{dual-laws}
 use Rattle.dual_lu.proofs.substitution.inverse_starts.Statement.{statement}
 use Rattle.dual_lu.proofs.substitution.inverse_starts.Tie as tie

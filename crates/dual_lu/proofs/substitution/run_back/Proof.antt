@@ -2,7 +2,8 @@ use borrow.Author.Needs.{needs}
 use Prim.Native.Nat.{_-_, _<_}
 use native.Mathlib.Omega.{arith}
 use Rattle.matrices.proofs.Places.{row-of, strided-keep, strided-place}
-use Rattle.matrices.proofs.Turns.{Backing, backing, run-turn, run-end}
+use Rattle.matrices.proofs.Turns.{run-turn, run-end}
+use Rattle.matrices.proofs.Substitution.{Backing, backing}
 use Rattle.dual_cells.proofs.Cells.{dual-laws}
 use Rattle.dual_lu.proofs.substitution.run_back.Statement.{statement}
 use Rattle.dual_lu.proofs.substitution.run_back.Tie as tie

@@ -1,7 +1,8 @@
 use borrow.Author.Needs.{needs}
 use Prim.Native.Nat.{_-_}
 use Rattle.matrices.proofs.Places.{row-of, strided-keep, strided-place}
-use Rattle.matrices.proofs.Turns.{Forwarding, forwarding, run-turn, run-end}
+use Rattle.matrices.proofs.Turns.{run-turn, run-end}
+use Rattle.matrices.proofs.Substitution.{Forwarding, forwarding}
 use Rattle.dual_cells.proofs.Cells.{dual-laws}
 use Rattle.dual_lu.proofs.substitution.run_forward.Statement.{statement}
 use Rattle.dual_lu.proofs.substitution.run_forward.Tie as tie

@@ -3,7 +3,7 @@ use Prim.Native.Nat.{_-_}
 use denote.Ref.{now}
 use native.Mathlib.Omega.{arith}
 use Rattle.matrices.proofs.Permutation.{order-below}
-use Rattle.matrices.proofs.Turns.{Starting, starting, start-turn, start-end, startOf}
+use Rattle.matrices.proofs.StartsWritten.{Starting, starting, start-turn, start-end, startOf}
 use Rattle.dual_cells.proofs.Cells.{dual-laws}
 use Rattle.dual_lu.proofs.substitution.solve_starts.Statement.{statement}
 use Rattle.dual_lu.proofs.substitution.solve_starts.Tie as tie

@@ -3,7 +3,7 @@ use Prim.Native.Nat.{_-_}
 use denote.Ref.{now}
 use Rattle.matrices.specs.Matrix.{Row}
 use Rattle.matrices.proofs.Places.{row-of}
-use Rattle.matrices.proofs.Turns.{Walking, walking, walk-bit, walk-turn, walk-stop, walk-refused, walk-end}
+use Rattle.matrices.proofs.DiagonalWalk.{Walking, walking, walk-bit, walk-turn, walk-stop, walk-refused, walk-end}
 use Rattle.hyperdual_cells.proofs.Cells.{hyper-dual-laws}
 use Rattle.hyperdual_lu.proofs.columns.determinant_of.Statement.{statement}
 use Rattle.hyperdual_lu.proofs.columns.determinant_of.Tie as tie

@@ -1,7 +1,8 @@
 use borrow.Author.Needs.{needs}
 use Prim.Native.Nat.{_-_}
 use Rattle.matrices.proofs.Places.{row-kept}
-use Rattle.matrices.proofs.Turns.{Reducing, reducing, run-turn, run-end}
+use Rattle.matrices.proofs.Turns.{run-turn, run-end}
+use Rattle.matrices.proofs.RowsReduced.{Reducing, reducing}
 use Rattle.hyperdual_cells.proofs.Cells.{hyper-dual-laws}
 use Rattle.hyperdual_lu.proofs.columns.reduce_rows.Statement.{statement}
 use Rattle.hyperdual_lu.proofs.columns.reduce_rows.Tie as tie

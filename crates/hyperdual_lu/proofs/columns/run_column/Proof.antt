@@ -7,7 +7,7 @@ use Rattle.hyperdual.specs.Rules.{hyperDualAlgebra, hyperDualLayout}
 use Rattle.matrices.specs.Lu.{going, reduceRun, column}
 use Rattle.matrices.specs.Steps.{runAfter, swapsOf}
 use Rattle.matrices.proofs.RowsOfRecords.{column-by}
-use Rattle.matrices.proofs.Turns.{column-stops, column-goes}
+use Rattle.matrices.proofs.ColumnsRun.{column-stops, column-goes}
 use Rattle.hyperdual_cells.proofs.Cells.{hyper-dual-laws}
 use Rattle.hyperdual_lu.proofs.columns.run_column.Statement.{statement}
 use Rattle.hyperdual_lu.proofs.columns.run_column.Tie as tie

@@ -1,5 +1,5 @@
 use borrow.Author.Needs.{needs}
-use Rattle.matrices.proofs.Turns.{sign-odd, sign-even}
+use Rattle.matrices.proofs.DiagonalWalk.{sign-odd, sign-even}
 use Rattle.hyperdual_cells.proofs.Cells.{hyper-dual-laws}
 use Rattle.hyperdual_lu.proofs.columns.signed.Statement.{statement}
 use Rattle.hyperdual_lu.proofs.columns.signed.Tie as tie

@@ -1,5 +1,5 @@
 use borrow.Author.Needs.{needs}
-use Rattle.matrices.proofs.Turns.{backed}
+use Rattle.matrices.proofs.Substitution.{backed}
 use Rattle.hyperdual_cells.proofs.Cells.{hyper-dual-laws}
 use Rattle.hyperdual_lu.proofs.substitution.back_row.Statement.{statement}
 use Rattle.hyperdual_lu.proofs.substitution.back_row.Tie as tie

@@ -1,5 +1,5 @@
 use borrow.Author.Needs.{needs}
-use Rattle.matrices.proofs.Turns.{forwarded}
+use Rattle.matrices.proofs.Substitution.{forwarded}
 use Rattle.hyperdual_cells.proofs.Cells.{hyper-dual-laws}
 use Rattle.hyperdual_lu.proofs.substitution.forward_row.Statement.{statement}
 use Rattle.hyperdual_lu.proofs.substitution.forward_row.Tie as tie

@@ -2,7 +2,8 @@ use borrow.Author.Needs.{needs}
 use Prim.Native.Nat.{_-_}
 use Rattle.matrices.specs.Matrix.{Square}
 use Rattle.matrices.proofs.Places.{strided-column}
-use Rattle.matrices.proofs.Turns.{Inverting, inverse-start, run-turn, run-end}
+use Rattle.matrices.proofs.Turns.{run-turn, run-end}
+use Rattle.matrices.proofs.StartsWritten.{Inverting, inverse-start}
 use Rattle.hyperdual_cells.proofs.Cells.{hyper-dual-laws}
 use Rattle.hyperdual_lu.proofs.substitution.inverse_run.Statement.{statement}
 use Rattle.hyperdual_lu.proofs.substitution.inverse_run.Tie as tie

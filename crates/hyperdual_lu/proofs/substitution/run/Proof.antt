@@ -1,6 +1,6 @@
 use borrow.Author.Needs.{needs}
 use Rattle.matrices.proofs.Places.{strided-keep}
-use Rattle.matrices.proofs.Turns.{substituted}
+use Rattle.matrices.proofs.Substitution.{substituted}
 use Rattle.hyperdual_cells.proofs.Cells.{hyper-dual-laws}
 use Rattle.hyperdual_lu.proofs.substitution.run.Statement.{statement}
 use Rattle.hyperdual_lu.proofs.substitution.run.Tie as tie
