@@ -1,8 +1,8 @@
 // LU column by column, and the determinant.
 use dual::Dual;
 use dual::DualAnswer;
+use matrices::AfterColumn;
 use matrices::Marks;
-use matrices::Step;
 ghost use mathlib.Core.Path.{_≡_};
 ghost use mathlib.Core.Bool.{cond};
 ghost use Prim.Native.Nat.{_+_, _*_, _<_, _≤_};
@@ -11,9 +11,9 @@ ghost use Rattle.algebra.specs.Algebra.{zeroOf};
 ghost use Rattle.algebra.specs.Flat.{decode};
 ghost use Rattle.algebra.specs.Loop.{upto};
 ghost use Rattle.dual.specs.Rules.{dualAlgebra, dualLayout, outcome};
-ghost use Rattle.matrices.specs.Matrix.{Square, Row, cell};
-ghost use Rattle.matrices.specs.Lu.{going, subtract, reduceRow, reduce, column, numbers, luOf};
-ghost use Rattle.matrices.specs.Steps.{runAfter, swapsOf};
+ghost use Rattle.matrices.specs.Matrix.{Square, RowPlace, cell};
+ghost use Rattle.matrices.specs.Lu.{going, subtract, reduceRow, reduce, column, countUp, luOf};
+ghost use Rattle.matrices.specs.RunAfter.{runAfter, swapsOf};
 ghost use Rattle.matrices.specs.Order.{isOdd};
 ghost use Rattle.matrices.specs.Entries.{determinantLeft};
 
@@ -29,8 +29,8 @@ fn subtract_record(a: &mut [f64], to: usize, from: usize, x: Dual)
 
 // The rest of row j, whose multiplier is x.
 fn subtract_row(n: usize, a: &mut [f64], i: usize, j: usize, x: Dual)
-    requires { ⌜ Row 2 n i (now a) ⌝ }
-    requires { ⌜ Row 2 n j (now a) ⌝ }
+    requires { ⌜ RowPlace 2 n i (now a) ⌝ }
+    requires { ⌜ RowPlace 2 n j (now a) ⌝ }
     requires { ⌜ cell dualAlgebra n (decode dualLayout (now a)) j i ≡ x ⌝ }
     ensures { λ _. ⌜ decode dualLayout (now (a .exit)) ≡ upto (i + 1) n (subtract dualAlgebra n i j) (decode dualLayout (now (a .entry))) ⌝ }
 {
@@ -43,8 +43,8 @@ fn subtract_row(n: usize, a: &mut [f64], i: usize, j: usize, x: Dual)
 
 // The multiplier of row j, then the rest of the row.
 fn reduce_row(n: usize, a: &mut [f64], i: usize, j: usize)
-    requires { ⌜ Row 2 n i (now a) ⌝ }
-    requires { ⌜ Row 2 n j (now a) ⌝ }
+    requires { ⌜ RowPlace 2 n i (now a) ⌝ }
+    requires { ⌜ RowPlace 2 n j (now a) ⌝ }
     ensures { λ _. ⌜ decode dualLayout (now (a .exit)) ≡ reduceRow dualAlgebra n i j (decode dualLayout (now (a .entry))) ⌝ }
 {
     let at = j * n + i;
@@ -65,7 +65,7 @@ fn reduce_rows(n: usize, a: &mut [f64], i: usize)
 }
 
 // Column i: the pivot, the exchange, the rows below.
-fn run_column(n: usize, a: &mut [f64], order: &mut [usize], i: usize, swaps: usize) -> Step
+fn run_column(n: usize, a: &mut [f64], order: &mut [usize], i: usize, swaps: usize) -> AfterColumn
     requires { ⌜ Square 2 n (now a) ⌝ }
     requires { ⌜ length (now order) ≡ n ⌝ }
     requires { ⌜ i < n ⌝ }
@@ -74,28 +74,28 @@ fn run_column(n: usize, a: &mut [f64], order: &mut [usize], i: usize, swaps: usi
     ensures { λ r. ⌜ column dualAlgebra n i (going (decode dualLayout (now (a .entry))) (now (order .entry)) swaps) ≡ runAfter r (decode dualLayout (now (a .exit))) (now (order .exit)) ⌝ }
 {
     let s = matrices::rows::bring_pivot(2, n, a, order, i, swaps);
-    let Step::Going { swaps: t } = s else {
+    let AfterColumn::Going { swaps: t } = s else {
         return s;
     };
     reduce_rows(n, a, i);
-    Step::Going { swaps: t }
+    AfterColumn::Going { swaps: t }
 }
 
 // Every column in turn, from the matrix in a and the order 0, 1, .., n - 1.
-pub(crate) fn run_columns(n: usize, a: &mut [f64], order: &mut [usize]) -> Step
+pub(crate) fn run_columns(n: usize, a: &mut [f64], order: &mut [usize]) -> AfterColumn
     requires { ⌜ Square 2 n (now a) ⌝ }
-    requires { ⌜ now order ≡ numbers n ⌝ }
+    requires { ⌜ now order ≡ countUp n ⌝ }
     ensures { λ r. ⌜ luOf dualAlgebra n (decode dualLayout (now (a .entry))) ≡ runAfter r (decode dualLayout (now (a .exit))) (now (order .exit)) ⌝ }
 {
     let mut swaps = 0;
     for i in 0..n {
         let s = run_column(n, a, order, i, swaps);
-        let Step::Going { swaps: t } = s else {
+        let AfterColumn::Going { swaps: t } = s else {
             return s;
         };
         swaps = t;
     }
-    Step::Going { swaps }
+    AfterColumn::Going { swaps }
 }
 
 // Negated where the count is odd.
@@ -114,7 +114,10 @@ pub(crate) fn determinant_of(n: usize, a: &[f64], order: &[usize], swaps: usize)
     requires { ⌜ length (now order) ≡ n ⌝ }
     ensures { λ r. ⌜ outcome r ≡ determinantLeft dualAlgebra dualLayout n (now (a .entry)) (now (order .entry)) swaps ⌝ }
 {
-    let mut m = Marks { word: 0, pairs: 0 };
+    let mut m = Marks {
+        word: 0,
+        inversions: 0,
+    };
     let mut x = Dual::ONE;
     for i in 0..n {
         let k = order[i];

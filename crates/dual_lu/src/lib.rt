@@ -4,9 +4,9 @@ mod columns;
 mod substitution;
 
 use dual::DualAnswer;
+use matrices::AfterColumn;
 pub use matrices::LuAnswer;
 pub use matrices::SolveAnswer;
-use matrices::Step;
 ghost use mathlib.Core.Path.{_≡_};
 ghost use lib.ListN.{length};
 ghost use Rattle.algebra.specs.Flat.{decode};
@@ -24,10 +24,10 @@ fn factor(n: usize, a: &[f64], factors: &mut [f64], order: &mut [usize]) -> LuAn
     ensures { λ r. ⌜ luAnswered (luOutcome r) (luColumn r) (now (factors .exit)) (now (order .exit)) ≡ luFinish dualAlgebra dualLayout n (luOf dualAlgebra n (decode dualLayout (now (a .entry)))) ⌝ }
 {
     floats::copy(a, factors);
-    matrices::order::number(order);
+    matrices::order::count_up(order);
     let s = columns::run_columns(n, factors, order);
     match s {
-        Step::Singular { column } => {
+        AfterColumn::Singular { column } => {
             floats::clear(factors);
             matrices::order::clear(order);
             LuAnswer::Refused {
@@ -35,7 +35,7 @@ fn factor(n: usize, a: &[f64], factors: &mut [f64], order: &mut [usize]) -> LuAn
                 column,
             }
         }
-        Step::Going { swaps } => LuAnswer::Done { swaps },
+        AfterColumn::Going { swaps } => LuAnswer::Done { swaps },
     }
 }
 

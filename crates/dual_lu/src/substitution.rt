@@ -8,7 +8,7 @@ ghost use Rattle.algebra.specs.Algebra.{zeroOf};
 ghost use Rattle.algebra.specs.Flat.{decode, tabulate};
 ghost use Rattle.algebra.specs.Loop.{upto};
 ghost use Rattle.dual.specs.Rules.{dualAlgebra, dualLayout};
-ghost use Rattle.matrices.specs.Matrix.{Square, Row};
+ghost use Rattle.matrices.specs.Matrix.{Square, RowPlace};
 ghost use Rattle.matrices.specs.Solve.{Strided, less, eliminate, forwardFrom, backRow, back, substituteFrom, solveOf};
 ghost use Rattle.matrices.specs.Inverse.{units, inverseOf};
 ghost use Rattle.matrices.specs.Order.{Order};
@@ -33,7 +33,7 @@ fn less_row(
     hi: usize,
     v: Dual,
 ) -> Dual
-    requires { ⌜ Row 2 n i (now a) ⌝ }
+    requires { ⌜ RowPlace 2 n i (now a) ⌝ }
     requires { ⌜ Strided 2 n stride base (now x) ⌝ }
     requires { ⌜ hi ≤ n ⌝ }
     ensures { λ r. ⌜ r ≡ upto lo hi (less dualAlgebra n (decode dualLayout (now (a .entry))) stride base i (decode dualLayout (now (x .entry)))) v ⌝ }
@@ -48,7 +48,7 @@ fn less_row(
 
 // x[i], less the products with the elements before it.
 fn forward_row(n: usize, a: &[f64], x: &mut [f64], stride: usize, base: usize, i: usize)
-    requires { ⌜ Row 2 n i (now a) ⌝ }
+    requires { ⌜ RowPlace 2 n i (now a) ⌝ }
     requires { ⌜ Strided 2 n stride base (now x) ⌝ }
     requires { ⌜ (i * stride + base) * 2 + 2 ≤ length (now x) ⌝ }
     ensures { λ _. ⌜ decode dualLayout (now (x .exit)) ≡ upto 0 i (eliminate dualAlgebra n (decode dualLayout (now (a .entry))) stride base i) (decode dualLayout (now (x .entry))) ⌝ }
@@ -72,7 +72,7 @@ fn run_forward(n: usize, a: &[f64], x: &mut [f64], stride: usize, base: usize)
 
 // x[i], less the products with the elements after it, over a[(i, i)].
 fn back_row(n: usize, a: &[f64], x: &mut [f64], stride: usize, base: usize, i: usize)
-    requires { ⌜ Row 2 n i (now a) ⌝ }
+    requires { ⌜ RowPlace 2 n i (now a) ⌝ }
     requires { ⌜ Strided 2 n stride base (now x) ⌝ }
     requires { ⌜ (i * stride + base) * 2 + 2 ≤ length (now x) ⌝ }
     ensures { λ _. ⌜ decode dualLayout (now (x .exit)) ≡ backRow dualAlgebra n (decode dualLayout (now (a .entry))) stride base i (decode dualLayout (now (x .entry))) ⌝ }

@@ -8,7 +8,7 @@ ghost use Rattle.algebra.specs.Algebra.{zeroOf};
 ghost use Rattle.algebra.specs.Flat.{decode, tabulate};
 ghost use Rattle.algebra.specs.Loop.{upto};
 ghost use Rattle.hyperdual.specs.Rules.{hyperDualAlgebra, hyperDualLayout};
-ghost use Rattle.matrices.specs.Matrix.{Square, Row};
+ghost use Rattle.matrices.specs.Matrix.{Square, RowPlace};
 ghost use Rattle.matrices.specs.Solve.{Strided, less, eliminate, forwardFrom, backRow, back, substituteFrom, solveOf};
 ghost use Rattle.matrices.specs.Inverse.{units, inverseOf};
 ghost use Rattle.matrices.specs.Order.{Order};
@@ -33,7 +33,7 @@ fn less_row(
     hi: usize,
     v: HyperDual,
 ) -> HyperDual
-    requires { ⌜ Row 4 n i (now a) ⌝ }
+    requires { ⌜ RowPlace 4 n i (now a) ⌝ }
     requires { ⌜ Strided 4 n stride base (now x) ⌝ }
     requires { ⌜ hi ≤ n ⌝ }
     ensures { λ r. ⌜ r ≡ upto lo hi (less hyperDualAlgebra n (decode hyperDualLayout (now (a .entry))) stride base i (decode hyperDualLayout (now (x .entry)))) v ⌝ }
@@ -48,7 +48,7 @@ fn less_row(
 
 // x[i], less the products with the elements before it.
 fn forward_row(n: usize, a: &[f64], x: &mut [f64], stride: usize, base: usize, i: usize)
-    requires { ⌜ Row 4 n i (now a) ⌝ }
+    requires { ⌜ RowPlace 4 n i (now a) ⌝ }
     requires { ⌜ Strided 4 n stride base (now x) ⌝ }
     requires { ⌜ (i * stride + base) * 4 + 4 ≤ length (now x) ⌝ }
     ensures { λ _. ⌜ decode hyperDualLayout (now (x .exit)) ≡ upto 0 i (eliminate hyperDualAlgebra n (decode hyperDualLayout (now (a .entry))) stride base i) (decode hyperDualLayout (now (x .entry))) ⌝ }
@@ -72,7 +72,7 @@ fn run_forward(n: usize, a: &[f64], x: &mut [f64], stride: usize, base: usize)
 
 // x[i], less the products with the elements after it, over a[(i, i)].
 fn back_row(n: usize, a: &[f64], x: &mut [f64], stride: usize, base: usize, i: usize)
-    requires { ⌜ Row 4 n i (now a) ⌝ }
+    requires { ⌜ RowPlace 4 n i (now a) ⌝ }
     requires { ⌜ Strided 4 n stride base (now x) ⌝ }
     requires { ⌜ (i * stride + base) * 4 + 4 ≤ length (now x) ⌝ }
     ensures { λ _. ⌜ decode hyperDualLayout (now (x .exit)) ≡ backRow hyperDualAlgebra n (decode hyperDualLayout (now (a .entry))) stride base i (decode hyperDualLayout (now (x .entry))) ⌝ }

@@ -15,7 +15,7 @@ use Rattle.algebra.proofs.Flat.{decode-length, decode-size, encode-length}
 use Rattle.algebra.proofs.Loop.{upto-keep}
 use Rattle.matrices.specs.Entries.{solveRefusal, inverseRefusal, determinantRefusal, luFinish, luLeft}
 use Rattle.matrices.specs.Matrix.{exchange, exchangeRows, store}
-use Rattle.matrices.specs.Lu.{Run, going, singular, numbers, bring, pivotOf, subtract, reduceRow, reduce, reduceRun, column, luOf}
+use Rattle.matrices.specs.Lu.{Run, going, singular, countUp, bringPivot, pivotOf, subtract, reduceRow, reduce, reduceRun, column, luOf}
 use Rattle.matrices.proofs.Answers.{LeavesOrder, not-both, lu-cases, accepted-order}
 use Rattle.matrices.proofs.Permutation.{order-isOrder}
 
@@ -44,9 +44,9 @@ module _ {R : Type 0} (A : Algebra R) (n : ℕ) where
   reduce-size i a = upto-keep (λ (m : List R). length m ≡ length a) (reduceRow A n i) (i + 1) n (λ j m h h′ e. row-size i j m ∙ e) a refl
 
   column-size : (k i : ℕ) (r : Run R) → Holds k r → Holds k (column A n i r)
-  unfolding column bring
+  unfolding column bringPivot
   column-size k i (singular c) h = tt
-  column-size k i (going a p swaps) h = go (eq (pivotOf A n a i .size) float.zero) (eqb (pivotOf A n a i .row) i)
+  column-size k i (going a p swaps) h = go (eq (pivotOf A n a i .magnitude) float.zero) (eqb (pivotOf A n a i .row) i)
     where
       go : (s t : Bool)
           → Holds k (reduceRun A n i (cond s (singular i) (cond t (going a p swaps) (going (exchangeRows (zeroOf A) n i (pivotOf A n a i .row) a) (exchange 0 i (pivotOf A n a i .row) p) (swaps + 1)))))
@@ -56,7 +56,7 @@ module _ {R : Type 0} (A : Algebra R) (n : ℕ) where
 
   lu-size : (a : List R) → Holds (length a) (luOf A n a)
   unfolding luOf
-  lu-size a = upto-keep (Holds (length a)) (column A n) 0 n (λ i r l u h. column-size (length a) i r h) (going a (numbers n) 0) refl
+  lu-size a = upto-keep (Holds (length a)) (column A n) 0 n (λ i r l u h. column-size (length a) i r h) (going a (countUp n) 0) refl
 
 -- ---- so its factors have the length wanted
 

@@ -12,10 +12,10 @@ use Rattle.algebra.specs.Algebra.{Algebra}
 use Rattle.algebra.specs.Loop.{upto}
 use Rattle.algebra.proofs.Loop.{upto-keep, upto-step}
 use Rattle.matrices.specs.Matrix.{exchange, exchangeRows, cell}
-use Rattle.matrices.specs.Lu.{Run, going, singular, better, bring, pivotOf, column}
+use Rattle.matrices.specs.Lu.{Run, going, singular, better, bringPivot, pivotOf, column}
 use Rattle.matrices.specs.declared.Pivot.{Pivot}
 
-better-is : (x : Float) (k : ℕ) (b : Pivot) → better x k b ≡ cond (lt (b .size) (absOf x)) (record { size = absOf x; row = k }) b
+better-is : (x : Float) (k : ℕ) (b : Pivot) → better x k b ≡ cond (lt (b .magnitude) (absOf x)) (record { magnitude = absOf x; row = k }) b
 unfolding better
 better-is x k b = refl
 
@@ -23,29 +23,29 @@ better-is x k b = refl
 pub pivot-row : {R : Type 0} (A : Algebra R) (n : ℕ) (a : List R) (i : ℕ) → i < n → (i ≤ pivotOf A n a i .row) × (pivotOf A n a i .row < n)
 unfolding pivotOf
 pivot-row A n a i h =
-    upto-keep (λ b. (i ≤ b .row) × (b .row < n)) (λ k. better (A .re (cell A n a k i)) k) i n (λ k b l u p. keep (A .re (cell A n a k i)) k b l u p) (record { size = float.zero; row = i }) (omega arith)
+    upto-keep (λ b. (i ≤ b .row) × (b .row < n)) (λ k. better (A .re (cell A n a k i)) k) i n (λ k b l u p. keep (A .re (cell A n a k i)) k b l u p) (record { magnitude = float.zero; row = i }) (omega arith)
   where
     pick : (k : ℕ) (b : Pivot) (x : Float) (t : Bool) → i ≤ k → k < n → (i ≤ b .row) × (b .row < n)
-        → (i ≤ (cond t (record { size = x; row = k }) b) .row) × ((cond t (record { size = x; row = k }) b) .row < n)
+        → (i ≤ (cond t (record { magnitude = x; row = k }) b) .row) × ((cond t (record { magnitude = x; row = k }) b) .row < n)
     pick k b x true l u p = (l, u)
     pick k b x false l u p = p
 
     keep : (x : Float) (k : ℕ) (b : Pivot) → i ≤ k → k < n → (i ≤ b .row) × (b .row < n) → (i ≤ better x k b .row) × (better x k b .row < n)
-    keep x k b l u p = rw (better-is x k b) (pick k b (absOf x) (lt (b .size) (absOf x)) l u p)
+    keep x k b l u p = rw (better-is x k b) (pick k b (absOf x) (lt (b .magnitude) (absOf x)) l u p)
 
 -- a pivot brought up, by its three cases
 module _ {B : Type 0} (d : B) (k : ℕ) (b : Pivot) (i : ℕ) (a : List B) (p : List ℕ) (swaps : ℕ) where
-  pub bring-none : eq (b .size) float.zero ≡ true → bring d k b i a p swaps ≡ singular i
-  unfolding bring
-  bring-none t = rw t refl
+  pub bringPivot-none : eq (b .magnitude) float.zero ≡ true → bringPivot d k b i a p swaps ≡ singular i
+  unfolding bringPivot
+  bringPivot-none t = rw t refl
 
-  pub bring-stays : eq (b .size) float.zero ≡ false → b .row ≡ i → bring d k b i a p swaps ≡ going a p swaps
-  unfolding bring
-  bring-stays t h = rw (t, eq-eqb (b .row) i h) refl
+  pub bringPivot-stays : eq (b .magnitude) float.zero ≡ false → b .row ≡ i → bringPivot d k b i a p swaps ≡ going a p swaps
+  unfolding bringPivot
+  bringPivot-stays t h = rw (t, eq-eqb (b .row) i h) refl
 
-  pub bring-moves : eq (b .size) float.zero ≡ false → (b .row ≡ i → ⊥) → bring d k b i a p swaps ≡ going (exchangeRows d k i (b .row) a) (exchange 0 i (b .row) p) (swaps + 1)
-  unfolding bring
-  bring-moves t h = rw (t, ne-eqb (b .row) i h) refl
+  pub bringPivot-moves : eq (b .magnitude) float.zero ≡ false → (b .row ≡ i → ⊥) → bringPivot d k b i a p swaps ≡ going (exchangeRows d k i (b .row) a) (exchange 0 i (b .row) p) (swaps + 1)
+  unfolding bringPivot
+  bringPivot-moves t h = rw (t, ne-eqb (b .row) i h) refl
 
 module _ {R : Type 0} (A : Algebra R) (n : ℕ) where
   -- what is singular stays so

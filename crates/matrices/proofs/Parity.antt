@@ -16,12 +16,12 @@ use Rattle.algebra.specs.Algebra.{Algebra, zeroOf}
 use Rattle.algebra.specs.Flat.{tabulate}
 use Rattle.algebra.proofs.Loop.{upto-keep, upto-reach}
 use Rattle.matrices.specs.Matrix.{exchange, exchangeRows}
-use Rattle.matrices.specs.Lu.{Run, going, singular, numbers, bring, pivotOf, reduceRun, column, luOf}
+use Rattle.matrices.specs.Lu.{Run, going, singular, countUp, bringPivot, pivotOf, reduceRun, column, luOf}
 use Rattle.matrices.specs.Order.{Distinct, Order, differ, oddBelow, parity, isOdd}
 use Rattle.matrices.specs.declared.Pivot.{Pivot}
-use Rattle.matrices.proofs.Lu.{pivot-row, bring-none, bring-stays, bring-moves}
+use Rattle.matrices.proofs.Lu.{pivot-row, bringPivot-none, bringPivot-stays, bringPivot-moves}
 use Rattle.matrices.proofs.Rest.{differ-swap}
-use Rattle.matrices.proofs.Permutation.{fore, all-at, exchange-order, numbers-order}
+use Rattle.matrices.proofs.Permutation.{fore, all-at, exchange-order, countUp-order}
 
 -- ---- the parity of such an exchange
 
@@ -103,15 +103,15 @@ exchange-parity (suc p) (suc q) (x ∷ l) h k a =
 
 -- ---- the order of a run
 
-numbers-odd : (d k x : ℕ) → x < k → oddBelow x (tabulate (λ j. j) d k) ≡ false
+countUp-odd : (d k x : ℕ) → x < k → oddBelow x (tabulate (λ j. j) d k) ≡ false
 unfolding tabulate oddBelow
-numbers-odd zero k x h = refl
-numbers-odd (suc d) k x h = rw (le-ltb k x (omega arith)) (numbers-odd d (suc k) x (omega arith))
+countUp-odd zero k x h = refl
+countUp-odd (suc d) k x h = rw (le-ltb k x (omega arith)) (countUp-odd d (suc k) x (omega arith))
 
-numbers-parity : (d k : ℕ) → parity (tabulate (λ j. j) d k) ≡ false
+countUp-parity : (d k : ℕ) → parity (tabulate (λ j. j) d k) ≡ false
 unfolding tabulate parity
-numbers-parity zero k = refl
-numbers-parity (suc d) k = rw (numbers-odd d (suc k) k (omega arith)) (numbers-parity d (suc k))
+countUp-parity zero k = refl
+countUp-parity (suc d) k = rw (countUp-odd d (suc k) k (omega arith)) (countUp-parity d (suc k))
 
 -- a run whose order is a permutation with the parity of its swaps
 abbrev pub Ordered : {B : Type 0} → ℕ → Run B → Type 0
@@ -123,23 +123,23 @@ abbrev pub swapsIn : {B : Type 0} → Run B → ℕ
 swapsIn (going a p swaps) = swaps
 swapsIn (singular c) = 0
 
-bring-ordered : {B : Type 0} (d : B) (k n : ℕ) (b : Pivot) (i : ℕ) (a : List B) (p : List ℕ) (swaps : ℕ) → i ≤ b .row → b .row < n → Order n p × (parity p ≡ isOdd swaps) → Ordered n (bring d k b i a p swaps)
+bringPivot-ordered : {B : Type 0} (d : B) (k n : ℕ) (b : Pivot) (i : ℕ) (a : List B) (p : List ℕ) (swaps : ℕ) → i ≤ b .row → b .row < n → Order n p × (parity p ≡ isOdd swaps) → Ordered n (bringPivot d k b i a p swaps)
 unfolding isOdd
-bring-ordered d k n b i a p swaps l u o = pick (eq (b .size) float.zero) refl
+bringPivot-ordered d k n b i a p swaps l u o = pick (eq (b .magnitude) float.zero) refl
   where
-    here : (t : Bool) → eqb (b .row) i ≡ t → eq (b .size) float.zero ≡ false → Ordered n (bring d k b i a p swaps)
-    here true e z = rw (bring-stays d k b i a p swaps z (eqb-true (b .row) i e)) o
+    here : (t : Bool) → eqb (b .row) i ≡ t → eq (b .magnitude) float.zero ≡ false → Ordered n (bringPivot d k b i a p swaps)
+    here true e z = rw (bringPivot-stays d k b i a p swaps z (eqb-true (b .row) i e)) o
     here false e z =
         let ne = eqb-false (b .row) i e in
         let h : i < b .row = omega arith in
         let s = o .0 .size in
-        rw (bring-moves d k b i a p swaps z ne) (
+        rw (bringPivot-moves d k b i a p swaps z ne) (
           exchange-order n i (b .row) p h u (o .0),
           exchange-parity i (b .row) p h (omega arith) (o .0 .apart) ∙ ap not (o .1) ∙ sym (ap isOdd (add-one swaps)),
         )
 
-    pick : (t : Bool) → eq (b .size) float.zero ≡ t → Ordered n (bring d k b i a p swaps)
-    pick true e = rw (bring-none d k b i a p swaps e) tt
+    pick : (t : Bool) → eq (b .magnitude) float.zero ≡ t → Ordered n (bringPivot d k b i a p swaps)
+    pick true e = rw (bringPivot-none d k b i a p swaps e) tt
     pick false e = here (eqb (b .row) i) refl e
 
 module _ {R : Type 0} (A : Algebra R) (n : ℕ) where
@@ -152,18 +152,18 @@ module _ {R : Type 0} (A : Algebra R) (n : ℕ) where
   column-ordered i (singular c) h o = tt
   column-ordered i (going a p swaps) h o =
       let b = pivot-row A n a i h in
-      reduce-ordered i (bring (zeroOf A) n (pivotOf A n a i) i a p swaps) (bring-ordered (zeroOf A) n n (pivotOf A n a i) i a p swaps (b .0) (b .1) o)
+      reduce-ordered i (bringPivot (zeroOf A) n (pivotOf A n a i) i a p swaps) (bringPivot-ordered (zeroOf A) n n (pivotOf A n a i) i a p swaps (b .0) (b .1) o)
 
   -- LU's order is a permutation of 0..n-1, and its parity is the swap count's
   pub lu-ordered : (a : List R) → Ordered n (luOf A n a)
   unfolding luOf isOdd
-  lu-ordered a = upto-keep (Ordered n) (column A n) 0 n (λ i r l u o. column-ordered i r u o) (going a (numbers n) 0) (numbers-order n, numbers-parity n 0)
+  lu-ordered a = upto-keep (Ordered n) (column A n) 0 n (λ i r l u o. column-ordered i r u o) (going a (countUp n) 0) (countUp-order n, countUp-parity n 0)
 
   -- a column counts at most one swap
   column-few : (i : ℕ) (r : Run R) → swapsIn r ≤ i → swapsIn (column A n i r) ≤ i + 1
-  unfolding column bring
+  unfolding column bringPivot
   column-few i (singular c) h = omega arith
-  column-few i (going a p swaps) h = go (eq (pivotOf A n a i .size) float.zero) (eqb (pivotOf A n a i .row) i)
+  column-few i (going a p swaps) h = go (eq (pivotOf A n a i .magnitude) float.zero) (eqb (pivotOf A n a i .row) i)
     where
       go : (s t : Bool)
           → swapsIn (reduceRun A n i (cond s (singular i) (cond t (going a p swaps) (going (exchangeRows (zeroOf A) n i (pivotOf A n a i .row) a) (exchange 0 i (pivotOf A n a i .row) p) (swaps + 1))))) ≤ i + 1
@@ -174,4 +174,4 @@ module _ {R : Type 0} (A : Algebra R) (n : ℕ) where
   -- LU counts at most n swaps
   pub lu-few : (a : List R) → swapsIn (luOf A n a) ≤ n
   unfolding luOf
-  lu-few a = upto-reach (λ i r. swapsIn r ≤ i) (column A n) 0 n (omega arith) (λ i r l u h. column-few i r h) (going a (numbers n) 0) (omega arith)
+  lu-few a = upto-reach (λ i r. swapsIn r ≤ i) (column A n) 0 n (omega arith) (λ i r l u h. column-few i r h) (going a (countUp n) 0) (omega arith)

@@ -10,7 +10,7 @@ use borrow.Author.Tests.{lt-ltb, ltb-true, eqb-false, ne-eqb}
 use Rattle.algebra.specs.Flat.{tabulate}
 use Rattle.algebra.proofs.Flat.{tabulate-length}
 use Rattle.matrices.specs.Matrix.{exchange}
-use Rattle.matrices.specs.Lu.{numbers}
+use Rattle.matrices.specs.Lu.{countUp}
 use Rattle.matrices.specs.Order.{All, Distinct, Order, absent, isOrder}
 
 -- ---- exchange of the first element with a later one: `getD l q 0 ∷ set l q x` for `x ∷ l`
@@ -69,23 +69,23 @@ exchange-order n p q o h k r =
 
 -- ---- 0, 1, .., n - 1
 
-numbers-above : (d k x : ℕ) → x < k → All (λ y. x ≡ y → ⊥) (tabulate (λ j. j) d k)
+countUp-above : (d k x : ℕ) → x < k → All (λ y. x ≡ y → ⊥) (tabulate (λ j. j) d k)
 unfolding tabulate
-numbers-above zero k x h = tt
-numbers-above (suc d) k x h = ((λ e. omega arith), numbers-above d (suc k) x (omega arith))
+countUp-above zero k x h = tt
+countUp-above (suc d) k x h = ((λ e. omega arith), countUp-above d (suc k) x (omega arith))
 
-numbers-below : (d k n : ℕ) → k + d ≤ n → All (λ v. v < n) (tabulate (λ j. j) d k)
+countUp-below : (d k n : ℕ) → k + d ≤ n → All (λ v. v < n) (tabulate (λ j. j) d k)
 unfolding tabulate
-numbers-below zero k n h = tt
-numbers-below (suc d) k n h = (omega arith, numbers-below d (suc k) n (omega arith))
+countUp-below zero k n h = tt
+countUp-below (suc d) k n h = (omega arith, countUp-below d (suc k) n (omega arith))
 
-numbers-distinct : (d k : ℕ) → Distinct (tabulate (λ j. j) d k)
+countUp-distinct : (d k : ℕ) → Distinct (tabulate (λ j. j) d k)
 unfolding tabulate
-numbers-distinct zero k = tt
-numbers-distinct (suc d) k = (numbers-above d (suc k) k (omega arith), numbers-distinct d (suc k))
+countUp-distinct zero k = tt
+countUp-distinct (suc d) k = (countUp-above d (suc k) k (omega arith), countUp-distinct d (suc k))
 
-pub numbers-order : (n : ℕ) → Order n (numbers n)
-numbers-order n = record { size = tabulate-length (λ j. j) n 0; below = numbers-below n 0 n (omega arith); apart = numbers-distinct n 0 }
+pub countUp-order : (n : ℕ) → Order n (countUp n)
+countUp-order n = record { size = tabulate-length (λ j. j) n 0; below = countUp-below n 0 n (omega arith); apart = countUp-distinct n 0 }
 
 -- an entry of a permutation is below n
 pub order-below : (n : ℕ) (p : List ℕ) → Order n p → (k : ℕ) → k < n → getD p k 0 < n

@@ -10,7 +10,7 @@ use Rattle.real.specs.Operations as float
 use Rattle.algebra.specs.Algebra.{reals}
 use Rattle.algebra.specs.Flat.{realParts}
 use Rattle.algebra.proofs.Flat.{tabulate-at}
-use Rattle.matrices.specs.Matrix.{Square, Row, cell}
+use Rattle.matrices.specs.Matrix.{Square, RowPlace, cell}
 use Rattle.matrices.specs.Solve.{Strided}
 
 -- row r and column c are one of the n * n places
@@ -18,8 +18,8 @@ pub place : (n r c : ℕ) → r < n → c < n → r * n + c < n * n
 place n r c hr hc = omega (arith, mul-le-mul-right n hr)
 
 -- a row is n of them
-pub row-place : (n r : ℕ) → r < n → r * n + n ≤ n * n
-row-place n r h = omega (arith, mul-le-mul-right n h)
+pub row-there : (n r : ℕ) → r < n → r * n + n ≤ n * n
+row-there n r h = omega (arith, mul-le-mul-right n h)
 
 -- record p of the n * n lies whole in the floats
 pub flat-place : (w m p : ℕ) → p < m → p * w + w ≤ m * w
@@ -41,15 +41,15 @@ inside w n r c l s hr hc =
     record { row = mul-le-mul h z; there = omega (arith, flat-place w (n * n) (r * n + c) (place n r c hr hc), s .full) }
 
 -- a row of a square matrix
-pub row-of : (w n i : ℕ) (l : List Float) → Square w n l → i < n → Row w n i l
-row-of w n i l s h =
+pub row-place : (w n i : ℕ) (l : List Float) → Square w n l → i < n → RowPlace w n i l
+row-place w n i l s h =
     let z = s .small in
     let b : i ≤ 32 = omega arith in
-    record { small = z; below = h; start = mul-le-mul b z; whole = omega (arith, mul-le-mul-right w (row-place n i h), s .full) }
+    record { small = z; below = h; start = mul-le-mul b z; whole = omega (arith, mul-le-mul-right w (row-there n i h), s .full) }
 
 -- and of floats of the same length
-pub row-kept : (w n i : ℕ) (l l′ : List Float) → Square w n l → length l′ ≡ length l → i < n → Row w n i l′
-row-kept w n i l l′ s e h = row-of w n i l′ (record { small = s .small; some = s .some; narrow = s .narrow; full = e ∙ s .full }) h
+pub row-place-kept : (w n i : ℕ) (l l′ : List Float) → Square w n l → length l′ ≡ length l → i < n → RowPlace w n i l′
+row-place-kept w n i l l′ s e h = row-place w n i l′ (record { small = s .small; some = s .some; narrow = s .narrow; full = e ∙ s .full }) h
 
 -- row r lies whole in the floats
 pub row-inside : (w n : ℕ) (l : List Float) (r : ℕ) → Square w n l → r < n → r * (n * w) + n * w ≤ length l

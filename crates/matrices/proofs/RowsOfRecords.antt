@@ -14,13 +14,13 @@ use Rattle.algebra.specs.Flat.{Layout, Lawful, Agrees, realParts, recordAt, rec
 use Rattle.algebra.proofs.Flat.{decode-length, decode-size, decode-at, decode-is, decode-reals, record-same}
 use Rattle.algebra.proofs.Loop.{upto-reach}
 use Rattle.matrices.specs.Matrix.{Square, exchange, exchangeRows}
-use Rattle.matrices.specs.Lu.{going, bring, pivotOf, reduceRun, column}
-use Rattle.matrices.specs.Steps.{runAfter}
-use Rattle.matrices.specs.declared.Step.{Step}
-use Rattle.matrices.specs.declared.Step.the-variants.{Singular, Going}
+use Rattle.matrices.specs.Lu.{going, bringPivot, pivotOf, reduceRun, column}
+use Rattle.matrices.specs.RunAfter.{runAfter}
+use Rattle.matrices.specs.declared.AfterColumn.{AfterColumn}
+use Rattle.matrices.specs.declared.AfterColumn.the-variants.{Singular, Going}
 use Rattle.matrices.proofs.Lu.{pivot-row}
-use Rattle.matrices.proofs.Places.{row-place, row-inside, flat-row}
-use Rattle.matrices.proofs.Slopes.{mapRun, bring-carry, pivot-map}
+use Rattle.matrices.proofs.Places.{row-there, row-inside, flat-row}
+use Rattle.matrices.proofs.Slopes.{mapRun, bringPivot-carry, pivot-map}
 
 -- two places of different rows differ
 apart : (k p q e c : ℕ) → (p ≡ q → ⊥) → e < k → c < k → p * k + e ≡ q * k + c → ⊥
@@ -138,7 +138,7 @@ module _ {R : Type 0} (L : Layout R) (W : Lawful L) (n : ℕ) (l : List Float) (
       a = all-exchanged float.zero (n * L .width) p q l ne (row-inside (L .width) n l p s hp) (row-inside (L .width) n l q s hq)
 
       b : Exchanged d n p q (decode L l) n m
-      b = all-exchanged d n p q (decode L l) ne (omega (arith, long, row-place n p hp)) (omega (arith, long, row-place n q hq))
+      b = all-exchanged d n p q (decode L l) ne (omega (arith, long, row-there n p hp)) (omega (arith, long, row-there n q hq))
 
       count : recordCount L l′ ≡ n * n
       count = ap (λ (k : ℕ). k / L .width) (a .size) ∙ full
@@ -147,13 +147,13 @@ module _ {R : Type 0} (L : Layout R) (W : Lawful L) (n : ℕ) (l : List Float) (
       upper r lo hi =
           let e : r ≡ p * n + (r - p * n) = omega arith in
           let t : r - p * n < n = omega arith in
-          rw e (record-row l′ p q (r - p * n) t (a .upper) ∙ sym (b .upper (r - p * n) t ∙ decode-at L W l (q * n + (r - p * n)) d (omega (arith, full, row-place n q hq))))
+          rw e (record-row l′ p q (r - p * n) t (a .upper) ∙ sym (b .upper (r - p * n) t ∙ decode-at L W l (q * n + (r - p * n)) d (omega (arith, full, row-there n q hq))))
 
       lower : (r : ℕ) → q * n ≤ r → r < q * n + n → recordAt L l′ r ≡ getD m r d
       lower r lo hi =
           let e : r ≡ q * n + (r - q * n) = omega arith in
           let t : r - q * n < n = omega arith in
-          rw e (record-row l′ q p (r - q * n) t (a .lower) ∙ sym (b .lower (r - q * n) t ∙ decode-at L W l (p * n + (r - q * n)) d (omega (arith, full, row-place n p hp))))
+          rw e (record-row l′ q p (r - q * n) t (a .lower) ∙ sym (b .lower (r - q * n) t ∙ decode-at L W l (p * n + (r - q * n)) d (omega (arith, full, row-there n p hp))))
 
       rest : (r : ℕ) → r < n * n → (p * n ≤ r → r < p * n + n → ⊥) → (q * n ≤ r → r < q * n + n → ⊥) → recordAt L l′ r ≡ getD m r d
       rest r h u v =
@@ -170,21 +170,21 @@ module _ {R : Type 0} (L : Layout R) (W : Lawful L) (n : ℕ) (l : List Float) (
       go r h (no x) (no y) (no z) (no t) = rest r h (λ f g. omega arith) (λ f g. omega arith)
 
   -- what the code brings up by real parts and floats is what the record's definition does
-  pub decode-bring : (A : Algebra R) → RealParts A → Agrees A L → (i : ℕ) (p : List ℕ) (swaps : ℕ) → i < n
-      → mapRun (decode L) (bring float.zero (n * L .width) (pivotOf reals n (realParts (L .width) l) i) i l p swaps) ≡ bring (zeroOf A) n (pivotOf A n (decode L l) i) i (decode L l) p swaps
-  decode-bring A K G i p swaps h =
+  pub decode-bringPivot : (A : Algebra R) → RealParts A → Agrees A L → (i : ℕ) (p : List ℕ) (swaps : ℕ) → i < n
+      → mapRun (decode L) (bringPivot float.zero (n * L .width) (pivotOf reals n (realParts (L .width) l) i) i l p swaps) ≡ bringPivot (zeroOf A) n (pivotOf A n (decode L l) i) i (decode L l) p swaps
+  decode-bringPivot A K G i p swaps h =
       let e = pivot-map A reals (A .re) K n (decode L l) i ∙ ap (λ (m : List Float). pivotOf reals n m i) (decode-reals L W A G l) in
       rw (← e)
-      (bring-carry (decode L) float.zero (zeroOf A) (n * L .width) n (pivotOf A n (decode L l) i) i l p swaps
+      (bringPivot-carry (decode L) float.zero (zeroOf A) (n * L .width) n (pivotOf A n (decode L l) i) i l p swaps
       (λ ne. let b = pivot-row A n (decode L l) i h in decode-exchangeRows (zeroOf A) i (pivotOf A n (decode L l) i .row) h (b .1) (λ z. ne (sym z))))
 
   -- a column of LU, from what the code has brought up
-  pub column-by : (A : Algebra R) → RealParts A → Agrees A L → (i : ℕ) (p : List ℕ) (swaps : ℕ) → i < n → (r : Step) (l′ : List Float) (p′ : List ℕ)
-      → runAfter r l′ p′ ≡ bring float.zero (n * L .width) (pivotOf reals n (realParts (L .width) l) i) i l p swaps
+  pub column-by : (A : Algebra R) → RealParts A → Agrees A L → (i : ℕ) (p : List ℕ) (swaps : ℕ) → i < n → (r : AfterColumn) (l′ : List Float) (p′ : List ℕ)
+      → runAfter r l′ p′ ≡ bringPivot float.zero (n * L .width) (pivotOf reals n (realParts (L .width) l) i) i l p swaps
       → column A n i (going (decode L l) p swaps) ≡ reduceRun A n i (runAfter r (decode L l′) p′)
   unfolding column
-  column-by A K G i p swaps h r l′ p′ e = ap (reduceRun A n i) (sym (decode-bring A K G i p swaps h) ∙ ap (mapRun (decode L)) (sym e) ∙ after r)
+  column-by A K G i p swaps h r l′ p′ e = ap (reduceRun A n i) (sym (decode-bringPivot A K G i p swaps h) ∙ ap (mapRun (decode L)) (sym e) ∙ after r)
     where
-      after : (t : Step) → mapRun (decode L) (runAfter t l′ p′) ≡ runAfter t (decode L l′) p′
+      after : (t : AfterColumn) → mapRun (decode L) (runAfter t l′ p′) ≡ runAfter t (decode L l′) p′
       after (Singular c) = refl
       after (Going s) = refl

@@ -13,7 +13,7 @@ use Rattle.algebra.proofs.Loop.{upto-turn, upto-end}
 use Rattle.algebra.proofs.Cells.{held}
 use Rattle.algebra.proofs.Laws.{Laws}
 use Rattle.matrices.specs.Lu.{subtract, reduceRow, reduce}
-use Rattle.matrices.specs.Matrix.{Row, cell, store}
+use Rattle.matrices.specs.Matrix.{RowPlace, cell, store}
 use Rattle.matrices.proofs.Inner.{subtract-by, multiplier-stays, multiplier-is}
 use Rattle.matrices.proofs.Turns.{Running}
 
@@ -44,7 +44,7 @@ module _ {R : Type 0} {A : Algebra R} {L : Layout R} (Q : Laws A L) where
   subtract-end n a₀ i j x a k r h = upto-end k n (subtract A n i j) (decode L a) h (r .rest)
 
   -- the multiplier is stored, and is what stands there
-  pub multiplier-stored : (n i j : ℕ) (a a′ : List Float) (x : R) → Row (L .width) n j a → i < n → decode L a′ ≡ set (decode L a) (j * n + i) x → cell A n (decode L a′) j i ≡ x
+  pub multiplier-stored : (n i j : ℕ) (a a′ : List Float) (x : R) → RowPlace (L .width) n j a → i < n → decode L a′ ≡ set (decode L a) (j * n + i) x → cell A n (decode L a′) j i ≡ x
   unfolding store
   multiplier-stored n i j a a′ x r h e =
       let m : (j * n + i + 1) * L .width ≤ (j * n + n) * L .width = mul-le-mul-right (L .width) (omega arith) in

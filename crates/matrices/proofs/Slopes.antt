@@ -13,7 +13,7 @@ use Rattle.algebra.specs.Algebra.{Algebra, Keeps, zeroOf, oneOf}
 use Rattle.algebra.specs.Loop.{upto}
 use Rattle.algebra.proofs.Loop.{upto-map}
 use Rattle.matrices.specs.Matrix.{exchange, exchangeRows, cell, store}
-use Rattle.matrices.specs.Lu.{Run, going, singular, better, bring, numbers, pivotOf, subtract, reduceRow, reduce, reduceRun, column, luOf}
+use Rattle.matrices.specs.Lu.{Run, going, singular, better, bringPivot, countUp, pivotOf, subtract, reduceRow, reduce, reduceRun, column, luOf}
 use Rattle.matrices.specs.Solve.{less, eliminate, forwardRow, forward, divide, backRow, back, substitute, solveOf}
 use Rattle.matrices.specs.Determinant.{diagonal, determinantOf}
 use Rattle.matrices.specs.Inverse.{unit, inverseColumn, inverseOf}
@@ -49,10 +49,10 @@ mapRun f (going a p swaps) = going (f a) p swaps
 mapRun f (singular c) = singular c
 
 -- what carries an exchange of rows over carries the pivot's over
-pub bring-carry : {B C : Type 0} (f : List B → List C) (d : B) (e : C) (j k : ℕ) (b : Pivot) (i : ℕ) (a : List B) (p : List ℕ) (swaps : ℕ)
-    → ((b .row ≡ i → ⊥) → f (exchangeRows d j i (b .row) a) ≡ exchangeRows e k i (b .row) (f a)) → mapRun f (bring d j b i a p swaps) ≡ bring e k b i (f a) p swaps
-unfolding bring
-bring-carry {C = C} f d e j k b i a p swaps moved = go (eq (b .size) float.zero) (eqb (b .row) i) refl
+pub bringPivot-carry : {B C : Type 0} (f : List B → List C) (d : B) (e : C) (j k : ℕ) (b : Pivot) (i : ℕ) (a : List B) (p : List ℕ) (swaps : ℕ)
+    → ((b .row ≡ i → ⊥) → f (exchangeRows d j i (b .row) a) ≡ exchangeRows e k i (b .row) (f a)) → mapRun f (bringPivot d j b i a p swaps) ≡ bringPivot e k b i (f a) p swaps
+unfolding bringPivot
+bringPivot-carry {C = C} f d e j k b i a p swaps moved = go (eq (b .magnitude) float.zero) (eqb (b .row) i) refl
   where
     go : (s t : Bool) → eqb (b .row) i ≡ t → mapRun f (cond s (singular i) (cond t (going a p swaps) (going (exchangeRows d j i (b .row) a) (exchange 0 i (b .row) p) (swaps + 1))))
         ≡ cond s (singular i) (cond t (going (f a) p swaps) (going (exchangeRows e k i (b .row) (f a)) (exchange 0 i (b .row) p) (swaps + 1)))
@@ -82,7 +82,7 @@ module _ {R S : Type 0} (A : Algebra R) (B : Algebra S) (h : R → S) (H : Keeps
   unfolding pivotOf
   pivot-map a i =
       upto-map (λ b. b) (λ k. better (A .re (cell A n a k i)) k) (λ k. better (B .re (cell B n (map h a) k i)) k)
-      (λ k b. ap (λ (x : Float). better x k b) (H .re (cell A n a k i) ∙ ap (B .re) (cell-map a k i))) i n (record { size = float.zero; row = i })
+      (λ k b. ap (λ (x : Float). better x k b) (H .re (cell A n a k i) ∙ ap (B .re) (cell-map a k i))) i n (record { magnitude = float.zero; row = i })
 
   subtract-map : (i j k : ℕ) (a : List R) → map h (subtract A n i j k a) ≡ subtract B n i j k (map h a)
   unfolding subtract
@@ -104,15 +104,15 @@ module _ {R S : Type 0} (A : Algebra R) (B : Algebra S) (h : R → S) (H : Keeps
   unfolding column
   column-map i (singular c) = refl
   column-map i (going a p swaps) =
-      reduceRun-map i (bring (zeroOf A) n (pivotOf A n a i) i a p swaps)
+      reduceRun-map i (bringPivot (zeroOf A) n (pivotOf A n a i) i a p swaps)
       ∙ ap (reduceRun B n i)
-      (bring-carry (map h) (zeroOf A) (zeroOf B) n n (pivotOf A n a i) i a p swaps
+      (bringPivot-carry (map h) (zeroOf A) (zeroOf B) n n (pivotOf A n a i) i a p swaps
       (λ apart. exchangeRows-map h (zeroOf A) n i (pivotOf A n a i .row) a ∙ ap (λ (d : S). exchangeRows d n i (pivotOf A n a i .row) (map h a)) (H .fromRe float.zero))
-      ∙ ap (λ (b : Pivot). bring (zeroOf B) n b i (map h a) p swaps) (pivot-map a i))
+      ∙ ap (λ (b : Pivot). bringPivot (zeroOf B) n b i (map h a) p swaps) (pivot-map a i))
 
   pub lu-map : (a : List R) → mapRun (map h) (luOf A n a) ≡ luOf B n (map h a)
   unfolding luOf
-  lu-map a = upto-map (mapRun (map h)) (column A n) (column B n) column-map 0 n (going a (numbers n) 0)
+  lu-map a = upto-map (mapRun (map h)) (column A n) (column B n) column-map 0 n (going a (countUp n) 0)
 
   -- ---- solve and inverse
 

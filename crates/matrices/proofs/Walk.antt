@@ -96,7 +96,7 @@ oddMarked-more w x (y ∷ l) = rw (marked-xor w (2 ^ x - 1) y, marked-below x y,
     go true true false c = sym (Bool·not-not c)
     go true true true c = refl
 
--- the parity of what is left, and of its pairs with what has come
+-- the parity of what is left, and of its inversions with what has come
 pub parityLeft : ℕ → List ℕ → Bool
 parityLeft w l = differ (oddMarked w l) (parity l)
 
@@ -119,18 +119,18 @@ parity-turn w x l odd =
     ∙ ap (λ (t : Bool). differ odd (differ m t)) (differ-turn b c (parity l))
     ∙ ap (differ odd) (differ-swap m c (differ b (parity l)) ∙ sym (differ-turn m c (differ b (parity l))))
 
--- before entry i, the pairs so far and what is left give the parity
-abbrev pub Pairing : List ℕ → ℕ → Bool → ℕ → Type 0
-Pairing o w odd i = differ odd (parityLeft w (drop i o)) ≡ parity o
+-- before entry i, the inversions so far and what is left give the parity
+abbrev pub Inversions : List ℕ → ℕ → Bool → ℕ → Type 0
+Inversions o w odd i = differ odd (parityLeft w (drop i o)) ≡ parity o
 
-pub pairing : (o : List ℕ) → Pairing o 0 false 0
-pairing o = parity-start o
+pub inversions-start : (o : List ℕ) → Inversions o 0 false 0
+inversions-start o = parity-start o
 
-pub pair-turn : (o : List ℕ) (w : ℕ) (odd : Bool) (i : ℕ) → Pairing o w odd i → i < length o → Pairing o (bitXor w (2 ^ getD o i 0 - 1)) (differ (marked w (getD o i 0)) odd) (i + 1)
-pair-turn o w odd i p h = parity-turn w (getD o i 0) (drop (i + 1) o) odd ∙ ap (λ (m : List ℕ). differ odd (parityLeft w m)) (sym (rest-turn o i h)) ∙ p
+pub inversions-turn : (o : List ℕ) (w : ℕ) (odd : Bool) (i : ℕ) → Inversions o w odd i → i < length o → Inversions o (bitXor w (2 ^ getD o i 0 - 1)) (differ (marked w (getD o i 0)) odd) (i + 1)
+inversions-turn o w odd i p h = parity-turn w (getD o i 0) (drop (i + 1) o) odd ∙ ap (λ (m : List ℕ). differ odd (parityLeft w m)) (sym (rest-turn o i h)) ∙ p
 
-pub pair-end : (o : List ℕ) (w : ℕ) (odd : Bool) (i : ℕ) → Pairing o w odd i → length o ≤ i → odd ≡ parity o
-pair-end o w odd i p h = sym (differ-false odd) ∙ ap (differ odd) (sym (ap (parityLeft w) (rest-end o i h) ∙ parity-end w)) ∙ p
+pub inversions-end : (o : List ℕ) (w : ℕ) (odd : Bool) (i : ℕ) → Inversions o w odd i → length o ≤ i → odd ≡ parity o
+inversions-end o w odd i p h = sym (differ-false odd) ∙ ap (differ odd) (sym (ap (parityLeft w) (rest-end o i h) ∙ parity-end w)) ∙ p
 
 -- ---- both in one word: its low half marks those that an odd number of what has come is above, its high half those that have come an odd number of times
 
@@ -155,7 +155,7 @@ differ-commutes false true = refl
 differ-commutes true false = refl
 differ-commutes true true = refl
 
--- bit 0 of the pairs
+-- bit 0 of the inversions
 odd-mark : (w p x : ℕ) → x < 32 → eqb (bitXor p (w / 2 ^ x) % 2) 1 ≡ differ (marked (w % 2 ^ 32) x) (eqb (p % 2) 1)
 odd-mark w p x h =
     ap (λ (k : ℕ). eqb k 1) (xor-mod p (w / 2 ^ x) 1) ∙ digits-xor (p % 2) (w / 2 ^ x % 2) (mod-lt p (omega arith)) (mod-lt (w / 2 ^ x) (omega arith))
@@ -166,14 +166,14 @@ differ-three false b c = refl
 differ-three true false c = refl
 differ-three true true c = sym (Bool·not-not c)
 
--- before entry i: the pairs, what has come and what is left, and that all that has come is below n
+-- before entry i: the inversions, what has come and what is left, and that all that has come is below n
 pub record Marking (n : ℕ) (o : List ℕ) (m : Marks) (i : ℕ) : Type 0 where
-  pub pairing : Pairing o (m .word % 2 ^ 32) (eqb (m .pairs % 2) 1) i
+  pub inversions : Inversions o (m .word % 2 ^ 32) (eqb (m .inversions % 2) 1) i
   pub coming : (x : ℕ) → differ (marked (m .word / 2 ^ 32) x) (oddly x (drop i o)) ≡ oddly x o
   pub bounded : allBelow n (drop i o) ≡ allBelow n o
 
 pub marking : (n : ℕ) (o : List ℕ) → Marking n o marksNone 0
-marking n o = record { pairing = pairing o; coming = λ x. ap (λ (t : Bool). differ t (oddly x o)) (marked-zero x); bounded = refl }
+marking n o = record { inversions = inversions-start o; coming = λ x. ap (λ (t : Bool). differ t (oddly x o)) (marked-zero x); bounded = refl }
 
 pub mark-turn : (n : ℕ) (o : List ℕ) (m : Marks) (i : ℕ) → Marking n o m i → i < length o → getD o i 0 < n → n ≤ 32 → Marking n o (marksWith m (getD o i 0)) (i + 1)
 unfolding oddly allBelow
@@ -182,7 +182,7 @@ mark-turn n o m i k h below small =
     let rest = drop (i + 1) o in
     let fits : x < 32 = omega arith in
     record {
-      pairing = (λ j. differ (odd-mark (m .word) (m .pairs) x fits j) (parityLeft (low-mark (m .word) x fits j) rest)) ∙ pair-turn o (m .word % 2 ^ 32) (eqb (m .pairs % 2) 1) i (k .pairing) h;
+      inversions = (λ j. differ (odd-mark (m .word) (m .inversions) x fits j) (parityLeft (low-mark (m .word) x fits j) rest)) ∙ inversions-turn o (m .word % 2 ^ 32) (eqb (m .inversions % 2) 1) i (k .inversions) h;
       coming = λ y.
           ap (λ (t : Bool). differ t (oddly y rest)) (ap (λ (w : ℕ). marked w y) (high-mark (m .word) x fits) ∙ marked-xor (m .word / 2 ^ 32) (2 ^ x) y ∙ ap (differ (marked (m .word / 2 ^ 32) y)) (marked-one x y))
           ∙ differ-three (marked (m .word / 2 ^ 32) y) (eqb x y) (oddly y rest)
@@ -239,5 +239,5 @@ mark-full n o m i k h long = go (isOrder n o) (ℕ-discrete w (2 ^ n - 1)) (orde
     go true (no e) f g = absurd (e (same-words (w + (2 ^ n - 1)) w (2 ^ n - 1) (omega arith) (omega arith) (λ x. come x ∙ f refl x ∙ sym (marked-below n x))))
 
 -- and its parity
-pub mark-odd : (n : ℕ) (o : List ℕ) (m : Marks) (i : ℕ) → Marking n o m i → length o ≤ i → eqb (m .pairs % 2) 1 ≡ parity o
-mark-odd n o m i k h = pair-end o (m .word % 2 ^ 32) (eqb (m .pairs % 2) 1) i (k .pairing) h
+pub mark-odd : (n : ℕ) (o : List ℕ) (m : Marks) (i : ℕ) → Marking n o m i → length o ≤ i → eqb (m .inversions % 2) 1 ≡ parity o
+mark-odd n o m i k h = inversions-end o (m .word % 2 ^ 32) (eqb (m .inversions % 2) 1) i (k .inversions) h

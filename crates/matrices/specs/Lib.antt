@@ -1,7 +1,7 @@
 -- What the contracts of the matrix crates are written with: LU, solve, determinant and inverse over any record. Definitions only.
 pub mod Matrix
 pub mod Lu
-pub mod Steps
+pub mod RunAfter
 pub mod Solve
 pub mod Determinant
 pub mod Inverse

@@ -19,23 +19,23 @@ pub data Run (R : Type 0) : Type 0 where
 
 -- row k with the real part x looked at: taken if |x| is strictly greater, so the first of equals stays and a NaN is never taken
 unfoldable pub better : Float → ℕ → Pivot → Pivot
-better x k b = let size = absOf x in cond (lt (b .size) size) (record { size = size; row = k }) b
+better x k b = let magnitude = absOf x in cond (lt (b .magnitude) magnitude) (record { magnitude = magnitude; row = k }) b
 
 -- if the pivot is zero the run ends at column i; else its row and row i are exchanged if they differ, whole and in the order, counting one swap
-unfoldable pub bring : {B : Type 0} → B → ℕ → Pivot → ℕ → List B → List ℕ → ℕ → Run B
-bring d k b i a p swaps =
-    cond (eq (b .size) float.zero)
+unfoldable pub bringPivot : {B : Type 0} → B → ℕ → Pivot → ℕ → List B → List ℕ → ℕ → Run B
+bringPivot d k b i a p swaps =
+    cond (eq (b .magnitude) float.zero)
     (singular i)
     (cond (eqb (b .row) i) (going a p swaps) (going (exchangeRows d k i (b .row) a) (exchange 0 i (b .row) p) (swaps + 1)))
 
 -- 0, 1, .., n - 1
-abbrev pub numbers : ℕ → List ℕ
-numbers n = tabulate (λ k. k) n 0
+abbrev pub countUp : ℕ → List ℕ
+countUp n = tabulate (λ k. k) n 0
 
 module _ {R : Type 0} (A : Algebra R) (n : ℕ) where
   -- the first row from i on with the greatest |re| in column i, starting from zero
   unfoldable pub pivotOf : List R → ℕ → Pivot
-  pivotOf a i = upto i n (λ k. better (A .re (cell A n a k i)) k) (record { size = float.zero; row = i })
+  pivotOf a i = upto i n (λ k. better (A .re (cell A n a k i)) k) (record { magnitude = float.zero; row = i })
 
   -- a[(j, k)] = a[(j, k)] - a[(j, i)] * a[(i, k)]
   unfoldable pub subtract : ℕ → ℕ → ℕ → List R → List R
@@ -56,9 +56,9 @@ module _ {R : Type 0} (A : Algebra R) (n : ℕ) where
 
   -- column i: the pivot, the exchange, the rows below
   unfoldable pub column : ℕ → Run R → Run R
-  column i (going a p swaps) = reduceRun i (bring (zeroOf A) n (pivotOf a i) i a p swaps)
+  column i (going a p swaps) = reduceRun i (bringPivot (zeroOf A) n (pivotOf a i) i a p swaps)
   column i (singular c) = singular c
 
   -- for i in 0..n
   unfoldable pub luOf : List R → Run R
-  luOf a = upto 0 n column (going a (numbers n) 0)
+  luOf a = upto 0 n column (going a (countUp n) 0)

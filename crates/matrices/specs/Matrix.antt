@@ -16,7 +16,7 @@ pub record Square (w n : ℕ) (l : List Float) : Type 0 where
   pub full : length l ≡ n * n * w
 
 -- one of its rows: row i, whole in the floats
-pub record Row (w n i : ℕ) (l : List Float) : Type 0 where
+pub record RowPlace (w n i : ℕ) (l : List Float) : Type 0 where
   pub small : n ≤ largest.n
   pub below : i < n
   pub start : i * n ≤ 1024

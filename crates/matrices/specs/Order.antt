@@ -42,7 +42,7 @@ unfoldable pub oddBelow : ℕ → List ℕ → Bool
 oddBelow x [] = false
 oddBelow x (y ∷ l) = differ (ltb y x) (oddBelow x l)
 
--- the parity: whether an odd number of pairs stand the wrong way round
+-- the parity: whether its inversions (an entry with a lesser one after it) are odd in number
 unfoldable pub parity : List ℕ → Bool
 parity [] = false
 parity (x ∷ l) = differ (oddBelow x l) (parity l)

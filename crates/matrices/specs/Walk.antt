@@ -18,11 +18,11 @@ markOf x = 2 ^ x * 2 ^ 32 + (2 ^ x - 1)
 
 -- nothing has come
 abbrev pub marksNone : Marks
-marksNone = record { word = 0; pairs = 0 }
+marksNone = record { word = 0; inversions = 0 }
 
--- x has come: it makes as many wrong pairs as numbers above it have come, an odd number of them where bit x is set
+-- x has come: it makes as many inversions as numbers above it have come, an odd number of them where bit x is set
 abbrev pub marksWith : Marks → ℕ → Marks
-marksWith m x = record { word = bitXor (m .word) (markOf x); pairs = bitXor (m .pairs) (m .word / 2 ^ x) }
+marksWith m x = record { word = bitXor (m .word) (markOf x); inversions = bitXor (m .inversions) (m .word / 2 ^ x) }
 
 -- the numbers below n have come, each an odd number of times, and no others
 abbrev pub isFull : ℕ → ℕ → Bool
@@ -36,4 +36,4 @@ lengthsRefusal w n factors order =
 
 -- 7 and 8 of determinant, by what the walk has marked
 abbrev pub walkedRefusal : ℕ → Marks → ℕ → ℕ
-walkedRefusal n m swaps = cond (isFull n (m .word)) (countRefusal (eqb (m .pairs % 2) 1) swaps) refusal.notAnOrder
+walkedRefusal n m swaps = cond (isFull n (m .word)) (countRefusal (eqb (m .inversions % 2) 1) swaps) refusal.notAnOrder

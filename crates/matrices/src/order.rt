@@ -1,17 +1,17 @@
-// The order of the rows: numbered, cleared, exchanged, and the tests that a lent one is put to.
+// The order of the rows: 0, 1, .., cleared, exchanged, and the tests that a lent one is put to.
 use super::Marks;
 ghost use mathlib.Core.Path.{_≡_};
 ghost use Prim.Native.Nat.{_<_, _≤_};
 ghost use lib.ListN.{length, replicate};
 ghost use Rattle.refusals.specs.Largest as largest;
 ghost use Rattle.matrices.specs.Matrix.{exchange};
-ghost use Rattle.matrices.specs.Lu.{numbers};
+ghost use Rattle.matrices.specs.Lu.{countUp};
 ghost use Rattle.matrices.specs.Order.{isOrder, differ};
 ghost use Rattle.matrices.specs.Walk.{marksWith, isFull};
 
 // 0, 1, .., one an entry.
-pub fn number(order: &mut [usize])
-    ensures { λ _. ⌜ now (order .exit) ≡ numbers (length (now (order .entry))) ⌝ }
+pub fn count_up(order: &mut [usize])
+    ensures { λ _. ⌜ now (order .exit) ≡ countUp (length (now (order .entry))) ⌝ }
 {
     let mut i = 0;
     while i < order.len() {
@@ -48,7 +48,7 @@ pub(crate) fn differs(t: bool, b: bool) -> bool
     if t { !b } else { b }
 }
 
-// x has come: as many more pairs stand the wrong way round as numbers above it have come. In the word, it changes its own bit 32 + x and those of the numbers below it.
+// x has come: with it as many more inversions as numbers above it have come. In the word, it changes its own bit 32 + x and those of the numbers below it.
 pub fn mark(m: Marks, x: usize) -> Marks
     requires { ⌜ x < 32 ⌝ }
     ensures { λ r. ⌜ r ≡ marksWith m x ⌝ }
@@ -56,7 +56,7 @@ pub fn mark(m: Marks, x: usize) -> Marks
     let word = m.word;
     Marks {
         word: word ^ ((0x1_0000_0001 << x) - 1),
-        pairs: m.pairs ^ (word >> x),
+        inversions: m.inversions ^ (word >> x),
     }
 }
 
@@ -74,7 +74,10 @@ pub(crate) fn is_order(n: usize, order: &[usize]) -> bool
     requires { ⌜ length (now order) ≡ n ⌝ }
     ensures { λ r. ⌜ r ≡ isOrder n (now (order .entry)) ⌝ }
 {
-    let mut m = Marks { word: 0, pairs: 0 };
+    let mut m = Marks {
+        word: 0,
+        inversions: 0,
+    };
     for i in 0..n {
         let x = order[i];
         if x >= n {

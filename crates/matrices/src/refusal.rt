@@ -122,7 +122,7 @@ pub fn walked(n: usize, m: Marks, swaps: usize) -> u32
     ensures { λ r. ⌜ r ≡ walkedRefusal n m swaps ⌝ }
 {
     if order::is_full(n, m.word) {
-        swap_count(m.pairs % 2 == 1, swaps)
+        swap_count(m.inversions % 2 == 1, swaps)
     } else {
         refusals::NOT_AN_ORDER
     }

@@ -1,6 +1,6 @@
 // The rows of a matrix in flat floats: the choice of a pivot, by real parts alone, and its row brought up.
+use super::AfterColumn;
 use super::Pivot;
-use super::Step;
 use super::order;
 ghost use mathlib.Core.Path.{_≡_};
 ghost use Prim.Native.Nat.{_+_, _*_, _<_, _≤_};
@@ -9,22 +9,22 @@ ghost use Rattle.real.specs.Operations as float;
 ghost use Rattle.algebra.specs.Algebra.{reals};
 ghost use Rattle.algebra.specs.Flat.{realParts};
 ghost use Rattle.matrices.specs.Matrix.{Square, exchangeRows};
-ghost use Rattle.matrices.specs.Lu.{better, pivotOf, bring};
-ghost use Rattle.matrices.specs.Steps.{runAfter, swapsOf};
+ghost use Rattle.matrices.specs.Lu.{better, pivotOf, bringPivot};
+ghost use Rattle.matrices.specs.RunAfter.{runAfter, swapsOf};
 
 // Row k with the real part x looked at.
 fn better_row(x: f64, k: usize, b: Pivot) -> Pivot
     ensures { λ r. ⌜ r ≡ better x k b ⌝ }
 {
-    let size = real::abs(x);
-    if b.size < size {
-        Pivot { size, row: k }
+    let magnitude = real::abs(x);
+    if b.magnitude < magnitude {
+        Pivot { magnitude, row: k }
     } else {
         b
     }
 }
 
-// The first row from i on with the greatest real part in column i, by magnitude; size 0 where none exceeds 0.
+// The first row from i on with the greatest real part in column i, by magnitude; magnitude 0 where none exceeds 0.
 fn find_pivot(w: usize, n: usize, a: &[f64], i: usize) -> Pivot
     requires { ⌜ Square w n (now a) ⌝ }
     requires { ⌜ i < n ⌝ }
@@ -32,7 +32,10 @@ fn find_pivot(w: usize, n: usize, a: &[f64], i: usize) -> Pivot
 {
     let row = n * w;
     let mut at = i * row + i * w;
-    let mut b = Pivot { size: 0.0, row: i };
+    let mut b = Pivot {
+        magnitude: 0.0,
+        row: i,
+    };
     for k in i..n {
         b = better_row(a[at], k, b);
         at += row;
@@ -62,24 +65,24 @@ pub fn bring_pivot(
     order: &mut [usize],
     i: usize,
     swaps: usize,
-) -> Step
+) -> AfterColumn
     requires { ⌜ Square w n (now a) ⌝ }
     requires { ⌜ length (now order) ≡ n ⌝ }
     requires { ⌜ i < n ⌝ }
     requires { ⌜ swaps ≤ i ⌝ }
     ensures { λ r. ⌜ swapsOf r ≤ i + 1 ⌝ }
-    ensures { λ r. ⌜ runAfter r (now (a .exit)) (now (order .exit)) ≡ bring float.zero (n * w) (pivotOf reals n (realParts w (now (a .entry))) i) i (now (a .entry)) (now (order .entry)) swaps ⌝ }
+    ensures { λ r. ⌜ runAfter r (now (a .exit)) (now (order .exit)) ≡ bringPivot float.zero (n * w) (pivotOf reals n (realParts w (now (a .entry))) i) i (now (a .entry)) (now (order .entry)) swaps ⌝ }
 {
     let b = find_pivot(w, n, a, i);
-    let size = b.size;
+    let magnitude = b.magnitude;
     let row = b.row;
-    if size == 0.0 {
-        return Step::Singular { column: i };
+    if magnitude == 0.0 {
+        return AfterColumn::Singular { column: i };
     }
     if row == i {
-        return Step::Going { swaps };
+        return AfterColumn::Going { swaps };
     }
     exchange_rows(n * w, a, i, row);
     order::exchange(order, i, row);
-    Step::Going { swaps: swaps + 1 }
+    AfterColumn::Going { swaps: swaps + 1 }
 }

@@ -1,13 +1,13 @@
 use borrow.Author.Needs.{needs}
 use mathlib.Core.Path.{ap, _∙_}
-use Rattle.matrices.specs.Lu.{numbers}
+use Rattle.matrices.specs.Lu.{countUp}
 use Rattle.matrices.proofs.ColumnsRun.{factor-done, factor-singular}
 use Rattle.dual_cells.proofs.Cells.{dual-laws}
 use Rattle.dual_lu.proofs.factor.Statement.{statement}
 use Rattle.dual_lu.proofs.factor.Tie as tie
 
 run-columns-requires : tie.Need-run-columns-requires
-run-columns-requires c κs = (search needs, c .before .before .before .before .number .ensures ∙ ap numbers (c .before .before .before .before .before .before .before .before .before .before .before .before .before .pre .1 .1))
+run-columns-requires c κs = (search needs, c .before .before .before .before .count-up .ensures ∙ ap countUp (c .before .before .before .before .before .before .before .before .before .before .before .before .before .pre .1 .1))
 
 pub factor-spec : {M : Type 1} → statement M
 factor-spec =

@@ -1,8 +1,8 @@
 use borrow.Author.Needs.{needs}
 use Prim.Native.Nat.{_-_}
 use denote.Ref.{now}
-use Rattle.matrices.specs.Matrix.{Row}
-use Rattle.matrices.proofs.Places.{row-of}
+use Rattle.matrices.specs.Matrix.{RowPlace}
+use Rattle.matrices.proofs.Places.{row-place}
 use Rattle.matrices.proofs.DiagonalWalk.{Walking, walking, walk-bit, walk-turn, walk-stop, walk-refused, walk-end}
 use Rattle.dual_cells.proofs.Cells.{dual-laws}
 use Rattle.dual_lu.proofs.columns.determinant_of.Statement.{statement}
@@ -15,8 +15,8 @@ abbrev μ-loop : tie.MeasureT-loop
 μ-loop n a o swaps m₀ x₀ i₀ m x i = n - i
 
 -- the row of the turn
-row : (c : tie.In-loop Inv-loop μ-loop) → let s = c .before .before .before .before .args in Row 2 (s .n) (c .before .loop .i) (now (s .a))
-row c = row-of 2 _ _ _ (c .before .before .before .before .pre .0) (c .loop-test .taken)
+row : (c : tie.In-loop Inv-loop μ-loop) → let s = c .before .before .before .before .args in RowPlace 2 (s .n) (c .before .loop .i) (now (s .a))
+row c = row-place 2 _ _ _ (c .before .before .before .before .pre .0) (c .loop-test .taken)
 
 pub determinant-of-spec : {M : Type 1} → statement M
 determinant-of-spec =

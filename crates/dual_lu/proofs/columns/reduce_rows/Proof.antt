@@ -1,6 +1,6 @@
 use borrow.Author.Needs.{needs}
 use Prim.Native.Nat.{_-_}
-use Rattle.matrices.proofs.Places.{row-kept}
+use Rattle.matrices.proofs.Places.{row-place-kept}
 use Rattle.matrices.proofs.Turns.{run-turn, run-end}
 use Rattle.matrices.proofs.RowsReduced.{Reducing, reducing}
 use Rattle.dual_cells.proofs.Cells.{dual-laws}
@@ -19,7 +19,7 @@ reduce-rows-spec =
     (tie.spec Inv-loop μ-loop
     (λ c. search needs)
     (λ c. reducing dual-laws _ _ _)
-    (λ c κs. search (needs, row-kept))
+    (λ c κs. search (needs, row-place-kept))
     (λ c. search needs) (λ c. search needs)
     (λ c. search (needs, run-turn dual-laws))
     (λ c. search needs)

@@ -1,6 +1,6 @@
 use borrow.Author.Needs.{needs}
 use Prim.Native.Nat.{_-_}
-use Rattle.matrices.proofs.Places.{row-of, strided-keep, strided-place}
+use Rattle.matrices.proofs.Places.{row-place, strided-keep, strided-place}
 use Rattle.matrices.proofs.Turns.{run-turn, run-end}
 use Rattle.matrices.proofs.Substitution.{Forwarding, forwarding}
 use Rattle.dual_cells.proofs.Cells.{dual-laws}
@@ -18,7 +18,7 @@ run-forward-spec =
     tie.close
     (tie.spec Inv-loop μ-loop
     (λ c. forwarding dual-laws _ _ _ _ _)
-    (λ c κs. search (needs, row-of, strided-keep, strided-place))
+    (λ c κs. search (needs, row-place, strided-keep, strided-place))
     (λ c. search needs) (λ c. search needs)
     (λ c. search (needs, run-turn dual-laws))
     (λ c. search needs)

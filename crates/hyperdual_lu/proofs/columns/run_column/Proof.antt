@@ -5,7 +5,7 @@ use denote.Ref.{now}
 use Rattle.algebra.specs.Flat.{decode}
 use Rattle.hyperdual.specs.Rules.{hyperDualAlgebra, hyperDualLayout}
 use Rattle.matrices.specs.Lu.{going, reduceRun, column}
-use Rattle.matrices.specs.Steps.{runAfter, swapsOf}
+use Rattle.matrices.specs.RunAfter.{runAfter, swapsOf}
 use Rattle.matrices.proofs.RowsOfRecords.{column-by}
 use Rattle.matrices.proofs.ColumnsRun.{column-stops, column-goes}
 use Rattle.hyperdual_cells.proofs.Cells.{hyper-dual-laws}

@@ -3,9 +3,9 @@ use Prim.Native.Nat.{_-_, _<_}
 use denote.Ref.{now}
 use lib.ListN.{getD}
 use native.Mathlib.Omega.{arith}
-use Rattle.matrices.specs.Matrix.{Square, Row}
+use Rattle.matrices.specs.Matrix.{Square, RowPlace}
 use Rattle.matrices.proofs.Permutation.{order-below}
-use Rattle.matrices.proofs.Places.{row-of}
+use Rattle.matrices.proofs.Places.{row-place}
 use Rattle.matrices.proofs.Turns.{run-end}
 use Rattle.matrices.proofs.StartsWritten.{Ones, ones-start, ones-turn}
 use Rattle.hyperdual_cells.proofs.Cells.{hyper-dual-laws}
@@ -19,11 +19,11 @@ abbrev μ-loop : tie.MeasureT-loop
 μ-loop n order x₀ i₀ x i = n - i
 
 -- where the one of row i stands
-known : (c : tie.In-loop Inv-loop μ-loop) → let s = c .before .before .before .before .before .before .before .before .args in let at = c .before .loop in Row 4 (s .n) (at .i) (at .x) × (getD (now (s .order)) (at .i) 0 < s .n)
+known : (c : tie.In-loop Inv-loop μ-loop) → let s = c .before .before .before .before .before .before .before .before .args in let at = c .before .loop in RowPlace 4 (s .n) (at .i) (at .x) × (getD (now (s .order)) (at .i) 0 < s .n)
 known c =
     let s = c .before .before .before .before .before .before .before .before in
     let sq : Square 4 (s .args .n) (c .before .loop .x) = search needs in
-    (row-of 4 _ _ _ sq (c .loop-test .taken), order-below (s .args .n) (now (s .args .order)) (s .pre .0) (c .before .loop .i) (c .loop-test .taken))
+    (row-place 4 _ _ _ sq (c .loop-test .taken), order-below (s .args .n) (now (s .args .order)) (s .pre .0) (c .before .loop .i) (c .loop-test .taken))
 
 pub inverse-starts-spec : {M : Type 1} → statement M
 inverse-starts-spec =

@@ -1,7 +1,7 @@
 use borrow.Author.Needs.{needs}
 use Prim.Native.Nat.{_-_, _<_}
 use native.Mathlib.Omega.{arith}
-use Rattle.matrices.proofs.Places.{row-of, strided-keep, strided-place}
+use Rattle.matrices.proofs.Places.{row-place, strided-keep, strided-place}
 use Rattle.matrices.proofs.Turns.{run-turn, run-end}
 use Rattle.matrices.proofs.Substitution.{Backing, backing}
 use Rattle.hyperdual_cells.proofs.Cells.{hyper-dual-laws}
@@ -18,7 +18,7 @@ back-row-requires : tie.Need-back-row-requires Inv-loop μ-loop
 back-row-requires c κs =
     let n = c .before .before .before .before .before .args .n in
     let h : n - 1 - c .before .before .loop .t < n = omega arith in
-    search (needs, row-of, strided-keep, strided-place)
+    search (needs, row-place, strided-keep, strided-place)
 
 pub run-back-spec : {M : Type 1} → statement M
 run-back-spec =

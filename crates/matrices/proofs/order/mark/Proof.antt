@@ -22,7 +22,7 @@ returns : tie.Need-returns
 returns c =
     let m = c .before .args .m in
     let x = c .before .args .x in
-    λ i. record { word = bitXor (m .word) (mark-by x (c .before .pre) i); pairs = bitXor (m .pairs) (m .word / 2 ^ x) }
+    λ i. record { word = bitXor (m .word) (mark-by x (c .before .pre) i); inversions = bitXor (m .inversions) (m .word / 2 ^ x) }
 
 pub mark-spec : {M : Type 1} → statement M
 mark-spec = tie.close (tie.spec

@@ -10,9 +10,9 @@ use Rattle.matrices.proofs.rows.better_row.Statement.{statement}
 use Rattle.matrices.proofs.rows.better_row.Tie as tie
 
 -- what the code's test finds is what `better` takes
-better-by : (x : Float) (k : ℕ) (b : Pivot) (size : Float) (t : Bool) → size ≡ absOf x → lt (b .size) size ≡ t → cond t (record { size = size; row = k }) b ≡ better x k b
+better-by : (x : Float) (k : ℕ) (b : Pivot) (magnitude : Float) (t : Bool) → magnitude ≡ absOf x → lt (b .magnitude) magnitude ≡ t → cond t (record { magnitude = magnitude; row = k }) b ≡ better x k b
 unfolding better
-better-by x k b size t e h = rw (← e, h) refl
+better-by x k b magnitude t e h = rw (← e, h) refl
 
 returns : tie.Need-returns
 returns c = better-by _ _ _ _ _ (c .before .before .abs .ensures) (c .if1 .taken)

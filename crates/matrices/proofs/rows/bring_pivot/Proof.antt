@@ -5,10 +5,10 @@ use borrow.Author.Needs.{needs}
 use native.Mathlib.Omega.{arith}
 use Rattle.real.specs.Operations.{zero}
 use Rattle.algebra.specs.Algebra.{reals}
-use Rattle.matrices.specs.Lu.{bring, going}
+use Rattle.matrices.specs.Lu.{bringPivot, going}
 use Rattle.matrices.specs.declared.Pivot.{Pivot}
 use Rattle.matrices.proofs.Places.{few, row-inside}
-use Rattle.matrices.proofs.Lu.{pivot-row, bring-none, bring-stays, bring-moves}
+use Rattle.matrices.proofs.Lu.{pivot-row, bringPivot-none, bringPivot-stays, bringPivot-moves}
 use Rattle.matrices.proofs.rows.bring_pivot.Statement.{statement}
 use Rattle.matrices.proofs.rows.bring_pivot.Tie as tie
 
@@ -19,12 +19,12 @@ row c = rw (c .find-pivot .ensures) (pivot-row reals _ _ _ (search needs))
 returns : tie.Need-returns
 returns c =
     let s = c .before .before .before .before .before .args in
-    (search needs, sym (bring-none zero (s .n * s .w) _ (s .i) (now (s .a)) (now (s .order)) (s .swaps) (c .if1 .taken)) ∙ ap (λ (b : Pivot). bring zero (s .n * s .w) b (s .i) (now (s .a)) (now (s .order)) (s .swaps)) (c .before .find-pivot .ensures))
+    (search needs, sym (bringPivot-none zero (s .n * s .w) _ (s .i) (now (s .a)) (now (s .order)) (s .swaps) (c .if1 .taken)) ∙ ap (λ (b : Pivot). bringPivot zero (s .n * s .w) b (s .i) (now (s .a)) (now (s .order)) (s .swaps)) (c .before .find-pivot .ensures))
 
 returns-2 : tie.Need-returns-2
 returns-2 c =
     let s = c .before .before .before .before .before .before .args in
-    (search needs, sym (bring-stays zero (s .n * s .w) _ (s .i) (now (s .a)) (now (s .order)) (s .swaps) (c .before .if1 .left) (c .if2 .taken)) ∙ ap (λ (b : Pivot). bring zero (s .n * s .w) b (s .i) (now (s .a)) (now (s .order)) (s .swaps)) (c .before .before .find-pivot .ensures))
+    (search needs, sym (bringPivot-stays zero (s .n * s .w) _ (s .i) (now (s .a)) (now (s .order)) (s .swaps) (c .before .if1 .left) (c .if2 .taken)) ∙ ap (λ (b : Pivot). bringPivot zero (s .n * s .w) b (s .i) (now (s .a)) (now (s .order)) (s .swaps)) (c .before .before .find-pivot .ensures))
 
 mul-exchange-rows : tie.Need-mul-exchange-rows
 mul-exchange-rows c = let s = c .before .before .before .before .before .before in omega (arith, few _ _ (s .pre .0 .small) (s .pre .0 .narrow))
@@ -44,10 +44,10 @@ returns-3 : tie.Need-returns-3
 returns-3 c =
     let s = c .before .before .before .before .before .before .before .before .before .before .before .before .before .before .args in
     let found = c .before .before .before .before .before .before .before .before .before .before .find-pivot in
-    let moved = bring-moves zero (s .n * s .w) (found .result) (s .i) (now (s .a)) (now (s .order)) (s .swaps) (c .before .before .before .before .before .before .before .before .before .if1 .left) (c .before .before .before .before .before .before .before .before .if2 .left) in (
+    let moved = bringPivot-moves zero (s .n * s .w) (found .result) (s .i) (now (s .a)) (now (s .order)) (s .swaps) (c .before .before .before .before .before .before .before .before .before .if1 .left) (c .before .before .before .before .before .before .before .before .if2 .left) in (
       search needs,
       (λ k. going (c .before .before .before .before .before .before .exchange-rows .ensures k) (c .before .before .exchange .ensures k) (s .swaps + 1))
-          ∙ sym moved ∙ ap (λ (b : Pivot). bring zero (s .n * s .w) b (s .i) (now (s .a)) (now (s .order)) (s .swaps)) (found .ensures),
+          ∙ sym moved ∙ ap (λ (b : Pivot). bringPivot zero (s .n * s .w) b (s .i) (now (s .a)) (now (s .order)) (s .swaps)) (found .ensures),
     )
 
 pub bring-pivot-spec : {M : Type 1} → statement M

@@ -5,9 +5,9 @@ use lib.ListN.{length, length-set}
 use native.Mathlib.Omega.{arith}
 use Rattle.floats.proofs.Fill.{Filled, filled-more, filled-all}
 use Rattle.algebra.proofs.Flat.{tabulate-length, tabulate-at}
-use Rattle.matrices.specs.Lu.{numbers}
-use Rattle.matrices.proofs.order.number.Statement.{statement}
-use Rattle.matrices.proofs.order.number.Tie as tie
+use Rattle.matrices.specs.Lu.{countUp}
+use Rattle.matrices.proofs.order.count_up.Statement.{statement}
+use Rattle.matrices.proofs.order.count_up.Tie as tie
 
 abbrev Inv-loop : tie.InvT-loop
 Inv-loop order₀ i₀ order i = (length order ≡ length order₀) × Filled 0 (λ k. k) order i
@@ -26,10 +26,10 @@ loop-again c =
 returns : tie.Need-returns Inv-loop μ-loop
 returns c =
     let at = c .before in
-    filled-all 0 (λ k. k) (at .loop .order) (numbers (length (now (at .before .args .order)))) (at .loop .i) (c .loop-test .left) (at .loop .inv .0 ∙ sym (tabulate-length (λ k. k) (length (now (at .before .args .order))) 0)) (at .loop .inv .1) (λ k h. tabulate-at (λ j. j) (length (now (at .before .args .order))) 0 k 0 (omega arith) ∙ omega arith)
+    filled-all 0 (λ k. k) (at .loop .order) (countUp (length (now (at .before .args .order)))) (at .loop .i) (c .loop-test .left) (at .loop .inv .0 ∙ sym (tabulate-length (λ k. k) (length (now (at .before .args .order))) 0)) (at .loop .inv .1) (λ k h. tabulate-at (λ j. j) (length (now (at .before .args .order))) 0 k 0 (omega arith) ∙ omega arith)
 
-pub number-spec : {M : Type 1} → statement M
-number-spec =
+pub count-up-spec : {M : Type 1} → statement M
+count-up-spec =
     tie.close
     (tie.spec Inv-loop μ-loop
     loop-holds
