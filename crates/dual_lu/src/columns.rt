@@ -4,23 +4,20 @@ use dual::DualAnswer;
 use matrices::AfterColumn;
 use matrices::Marks;
 ghost use mathlib.Core.Path.{_≡_};
-ghost use mathlib.Core.Bool.{cond};
 ghost use Prim.Native.Nat.{_+_, _*_, _<_, _≤_};
-ghost use lib.ListN.{length, getD, set};
-ghost use Rattle.algebra.specs.Algebra.{zeroOf};
+ghost use lib.ListN.{length};
 ghost use Rattle.algebra.specs.Flat.{decode};
-ghost use Rattle.algebra.specs.Loop.{upto};
 ghost use Rattle.dual.specs.Rules.{dualAlgebra, dualLayout, outcome};
 ghost use Rattle.matrices.specs.Matrix.{Square, RowPlace, cell};
-ghost use Rattle.matrices.specs.Lu.{going, subtract, reduceRow, reduce, column, countUp, luOf};
+ghost use Rattle.matrices.specs.Lu.{going, subtractMultiple, subtractRow, reduceRow, reduce, column, countUp, luOf};
 ghost use Rattle.matrices.specs.RunAfter.{runAfter, swapsOf};
-ghost use Rattle.matrices.specs.Order.{isOdd};
+ghost use Rattle.matrices.specs.Determinant.{signed};
 ghost use Rattle.matrices.specs.Entries.{determinantLeft};
 
 // Record `to` less x times record `from`.
 fn subtract_record(a: &mut [f64], to: usize, from: usize, x: Dual)
     requires { ⌜ (to * 2 + 1 < length (now a)) × (from * 2 + 1 < length (now a)) ⌝ }
-    ensures { λ _. ⌜ decode dualLayout (now (a .exit)) ≡ set (decode dualLayout (now (a .entry))) to (dualAlgebra .sub (getD (decode dualLayout (now (a .entry))) to (zeroOf dualAlgebra)) (dualAlgebra .mul x (getD (decode dualLayout (now (a .entry))) from (zeroOf dualAlgebra)))) ⌝ }
+    ensures { λ _. ⌜ decode dualLayout (now (a .exit)) ≡ subtractMultiple dualAlgebra to from x (decode dualLayout (now (a .entry))) ⌝ }
 {
     let u = dual_cells::read(a, to);
     let v = dual_cells::read(a, from);
@@ -32,7 +29,7 @@ fn subtract_row(n: usize, a: &mut [f64], i: usize, j: usize, x: Dual)
     requires { ⌜ RowPlace 2 n i (now a) ⌝ }
     requires { ⌜ RowPlace 2 n j (now a) ⌝ }
     requires { ⌜ cell dualAlgebra n (decode dualLayout (now a)) j i ≡ x ⌝ }
-    ensures { λ _. ⌜ decode dualLayout (now (a .exit)) ≡ upto (i + 1) n (subtract dualAlgebra n i j) (decode dualLayout (now (a .entry))) ⌝ }
+    ensures { λ _. ⌜ decode dualLayout (now (a .exit)) ≡ subtractRow dualAlgebra n i j (decode dualLayout (now (a .entry))) ⌝ }
 {
     let to = j * n;
     let from = i * n;
@@ -100,7 +97,7 @@ pub(crate) fn run_columns(n: usize, a: &mut [f64], order: &mut [usize]) -> After
 
 // Negated where the count is odd.
 fn signed(x: Dual, swaps: usize) -> Dual
-    ensures { λ r. ⌜ r ≡ cond (isOdd swaps) (dualAlgebra .neg x) x ⌝ }
+    ensures { λ r. ⌜ r ≡ signed dualAlgebra swaps x ⌝ }
 {
     if swaps % 2 == 1 {
         return x.neg();

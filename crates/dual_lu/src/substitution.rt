@@ -3,20 +3,18 @@
 use dual::Dual;
 ghost use mathlib.Core.Path.{_≡_};
 ghost use Prim.Native.Nat.{_+_, _*_, _<_, _≤_};
-ghost use lib.ListN.{length, getD};
-ghost use Rattle.algebra.specs.Algebra.{zeroOf};
-ghost use Rattle.algebra.specs.Flat.{decode, tabulate};
-ghost use Rattle.algebra.specs.Loop.{upto};
+ghost use lib.ListN.{length};
+ghost use Rattle.algebra.specs.Flat.{decode};
 ghost use Rattle.dual.specs.Rules.{dualAlgebra, dualLayout};
 ghost use Rattle.matrices.specs.Matrix.{Square, RowPlace};
-ghost use Rattle.matrices.specs.Solve.{Strided, less, eliminate, forwardFrom, backRow, back, substituteFrom, solveOf};
+ghost use Rattle.matrices.specs.Solve.{Strided, lessProduct, lessRow, forwardRowFrom, forwardFrom, backRow, back, substituteFrom, solveStarts, solveOf};
 ghost use Rattle.matrices.specs.Inverse.{units, inverseOf};
 ghost use Rattle.matrices.specs.Order.{Order};
 
 // v less record p of a times record q of x.
 fn less_product(v: Dual, a: &[f64], p: usize, x: &[f64], q: usize) -> Dual
     requires { ⌜ (p * 2 + 1 < length (now a)) × (q * 2 + 1 < length (now x)) ⌝ }
-    ensures { λ r. ⌜ r ≡ dualAlgebra .sub v (dualAlgebra .mul (getD (decode dualLayout (now (a .entry))) p (zeroOf dualAlgebra)) (getD (decode dualLayout (now (x .entry))) q (zeroOf dualAlgebra))) ⌝ }
+    ensures { λ r. ⌜ r ≡ lessProduct dualAlgebra v (decode dualLayout (now (a .entry))) p (decode dualLayout (now (x .entry))) q ⌝ }
 {
     v.sub(dual_cells::read(a, p).mul(dual_cells::read(x, q)))
 }
@@ -36,7 +34,7 @@ fn less_row(
     requires { ⌜ RowPlace 2 n i (now a) ⌝ }
     requires { ⌜ Strided 2 n stride base (now x) ⌝ }
     requires { ⌜ hi ≤ n ⌝ }
-    ensures { λ r. ⌜ r ≡ upto lo hi (less dualAlgebra n (decode dualLayout (now (a .entry))) stride base i (decode dualLayout (now (x .entry)))) v ⌝ }
+    ensures { λ r. ⌜ r ≡ lessRow dualAlgebra n (decode dualLayout (now (a .entry))) stride base i (decode dualLayout (now (x .entry))) lo hi v ⌝ }
 {
     let row = i * n;
     let mut r = v;
@@ -51,7 +49,7 @@ fn forward_row(n: usize, a: &[f64], x: &mut [f64], stride: usize, base: usize, i
     requires { ⌜ RowPlace 2 n i (now a) ⌝ }
     requires { ⌜ Strided 2 n stride base (now x) ⌝ }
     requires { ⌜ (i * stride + base) * 2 + 2 ≤ length (now x) ⌝ }
-    ensures { λ _. ⌜ decode dualLayout (now (x .exit)) ≡ upto 0 i (eliminate dualAlgebra n (decode dualLayout (now (a .entry))) stride base i) (decode dualLayout (now (x .entry))) ⌝ }
+    ensures { λ _. ⌜ decode dualLayout (now (x .exit)) ≡ forwardRowFrom dualAlgebra n (decode dualLayout (now (a .entry))) stride base i (decode dualLayout (now (x .entry))) ⌝ }
 {
     let at = i * stride + base;
     let v = dual_cells::read(x, at);
@@ -108,7 +106,7 @@ fn solve_starts(n: usize, order: &[usize], b: &[f64], x: &mut [f64])
     requires { ⌜ Order n (now order) ⌝ }
     requires { ⌜ length (now b) ≡ n * 2 ⌝ }
     requires { ⌜ length (now x) ≡ n * 2 ⌝ }
-    ensures { λ _. ⌜ decode dualLayout (now (x .exit)) ≡ tabulate (λ k. getD (decode dualLayout (now (b .entry))) (getD (now (order .entry)) k 0) (zeroOf dualAlgebra)) n 0 ⌝ }
+    ensures { λ _. ⌜ decode dualLayout (now (x .exit)) ≡ solveStarts dualAlgebra n (now (order .entry)) (decode dualLayout (now (b .entry))) ⌝ }
 {
     for k in 0..n {
         let p = order[k];

@@ -4,23 +4,20 @@ use hyperdual::HyperDualAnswer;
 use matrices::AfterColumn;
 use matrices::Marks;
 ghost use mathlib.Core.Path.{_≡_};
-ghost use mathlib.Core.Bool.{cond};
 ghost use Prim.Native.Nat.{_+_, _*_, _<_, _≤_};
-ghost use lib.ListN.{length, getD, set};
-ghost use Rattle.algebra.specs.Algebra.{zeroOf};
+ghost use lib.ListN.{length};
 ghost use Rattle.algebra.specs.Flat.{decode};
-ghost use Rattle.algebra.specs.Loop.{upto};
 ghost use Rattle.hyperdual.specs.Rules.{hyperDualAlgebra, hyperDualLayout, outcome};
 ghost use Rattle.matrices.specs.Matrix.{Square, RowPlace, cell};
-ghost use Rattle.matrices.specs.Lu.{going, subtract, reduceRow, reduce, column, countUp, luOf};
+ghost use Rattle.matrices.specs.Lu.{going, subtractMultiple, subtractRow, reduceRow, reduce, column, countUp, luOf};
 ghost use Rattle.matrices.specs.RunAfter.{runAfter, swapsOf};
-ghost use Rattle.matrices.specs.Order.{isOdd};
+ghost use Rattle.matrices.specs.Determinant.{signed};
 ghost use Rattle.matrices.specs.Entries.{determinantLeft};
 
 // Record `to` less x times record `from`.
 fn subtract_record(a: &mut [f64], to: usize, from: usize, x: HyperDual)
     requires { ⌜ (to * 4 + 3 < length (now a)) × (from * 4 + 3 < length (now a)) ⌝ }
-    ensures { λ _. ⌜ decode hyperDualLayout (now (a .exit)) ≡ set (decode hyperDualLayout (now (a .entry))) to (hyperDualAlgebra .sub (getD (decode hyperDualLayout (now (a .entry))) to (zeroOf hyperDualAlgebra)) (hyperDualAlgebra .mul x (getD (decode hyperDualLayout (now (a .entry))) from (zeroOf hyperDualAlgebra)))) ⌝ }
+    ensures { λ _. ⌜ decode hyperDualLayout (now (a .exit)) ≡ subtractMultiple hyperDualAlgebra to from x (decode hyperDualLayout (now (a .entry))) ⌝ }
 {
     let u = hyperdual_cells::read(a, to);
     let v = hyperdual_cells::read(a, from);
@@ -32,7 +29,7 @@ fn subtract_row(n: usize, a: &mut [f64], i: usize, j: usize, x: HyperDual)
     requires { ⌜ RowPlace 4 n i (now a) ⌝ }
     requires { ⌜ RowPlace 4 n j (now a) ⌝ }
     requires { ⌜ cell hyperDualAlgebra n (decode hyperDualLayout (now a)) j i ≡ x ⌝ }
-    ensures { λ _. ⌜ decode hyperDualLayout (now (a .exit)) ≡ upto (i + 1) n (subtract hyperDualAlgebra n i j) (decode hyperDualLayout (now (a .entry))) ⌝ }
+    ensures { λ _. ⌜ decode hyperDualLayout (now (a .exit)) ≡ subtractRow hyperDualAlgebra n i j (decode hyperDualLayout (now (a .entry))) ⌝ }
 {
     let to = j * n;
     let from = i * n;
@@ -100,7 +97,7 @@ pub(crate) fn run_columns(n: usize, a: &mut [f64], order: &mut [usize]) -> After
 
 // Negated where the count is odd.
 fn signed(x: HyperDual, swaps: usize) -> HyperDual
-    ensures { λ r. ⌜ r ≡ cond (isOdd swaps) (hyperDualAlgebra .neg x) x ⌝ }
+    ensures { λ r. ⌜ r ≡ signed hyperDualAlgebra swaps x ⌝ }
 {
     if swaps % 2 == 1 {
         return x.neg();

@@ -3,20 +3,18 @@
 use hyperdual::HyperDual;
 ghost use mathlib.Core.Path.{_≡_};
 ghost use Prim.Native.Nat.{_+_, _*_, _<_, _≤_};
-ghost use lib.ListN.{length, getD};
-ghost use Rattle.algebra.specs.Algebra.{zeroOf};
-ghost use Rattle.algebra.specs.Flat.{decode, tabulate};
-ghost use Rattle.algebra.specs.Loop.{upto};
+ghost use lib.ListN.{length};
+ghost use Rattle.algebra.specs.Flat.{decode};
 ghost use Rattle.hyperdual.specs.Rules.{hyperDualAlgebra, hyperDualLayout};
 ghost use Rattle.matrices.specs.Matrix.{Square, RowPlace};
-ghost use Rattle.matrices.specs.Solve.{Strided, less, eliminate, forwardFrom, backRow, back, substituteFrom, solveOf};
+ghost use Rattle.matrices.specs.Solve.{Strided, lessProduct, lessRow, forwardRowFrom, forwardFrom, backRow, back, substituteFrom, solveStarts, solveOf};
 ghost use Rattle.matrices.specs.Inverse.{units, inverseOf};
 ghost use Rattle.matrices.specs.Order.{Order};
 
 // v less record p of a times record q of x.
 fn less_product(v: HyperDual, a: &[f64], p: usize, x: &[f64], q: usize) -> HyperDual
     requires { ⌜ (p * 4 + 3 < length (now a)) × (q * 4 + 3 < length (now x)) ⌝ }
-    ensures { λ r. ⌜ r ≡ hyperDualAlgebra .sub v (hyperDualAlgebra .mul (getD (decode hyperDualLayout (now (a .entry))) p (zeroOf hyperDualAlgebra)) (getD (decode hyperDualLayout (now (x .entry))) q (zeroOf hyperDualAlgebra))) ⌝ }
+    ensures { λ r. ⌜ r ≡ lessProduct hyperDualAlgebra v (decode hyperDualLayout (now (a .entry))) p (decode hyperDualLayout (now (x .entry))) q ⌝ }
 {
     v.sub(hyperdual_cells::read(a, p).mul(hyperdual_cells::read(x, q)))
 }
@@ -36,7 +34,7 @@ fn less_row(
     requires { ⌜ RowPlace 4 n i (now a) ⌝ }
     requires { ⌜ Strided 4 n stride base (now x) ⌝ }
     requires { ⌜ hi ≤ n ⌝ }
-    ensures { λ r. ⌜ r ≡ upto lo hi (less hyperDualAlgebra n (decode hyperDualLayout (now (a .entry))) stride base i (decode hyperDualLayout (now (x .entry)))) v ⌝ }
+    ensures { λ r. ⌜ r ≡ lessRow hyperDualAlgebra n (decode hyperDualLayout (now (a .entry))) stride base i (decode hyperDualLayout (now (x .entry))) lo hi v ⌝ }
 {
     let row = i * n;
     let mut r = v;
@@ -51,7 +49,7 @@ fn forward_row(n: usize, a: &[f64], x: &mut [f64], stride: usize, base: usize, i
     requires { ⌜ RowPlace 4 n i (now a) ⌝ }
     requires { ⌜ Strided 4 n stride base (now x) ⌝ }
     requires { ⌜ (i * stride + base) * 4 + 4 ≤ length (now x) ⌝ }
-    ensures { λ _. ⌜ decode hyperDualLayout (now (x .exit)) ≡ upto 0 i (eliminate hyperDualAlgebra n (decode hyperDualLayout (now (a .entry))) stride base i) (decode hyperDualLayout (now (x .entry))) ⌝ }
+    ensures { λ _. ⌜ decode hyperDualLayout (now (x .exit)) ≡ forwardRowFrom hyperDualAlgebra n (decode hyperDualLayout (now (a .entry))) stride base i (decode hyperDualLayout (now (x .entry))) ⌝ }
 {
     let at = i * stride + base;
     let v = hyperdual_cells::read(x, at);
@@ -118,7 +116,7 @@ fn solve_starts(n: usize, order: &[usize], b: &[f64], x: &mut [f64])
     requires { ⌜ Order n (now order) ⌝ }
     requires { ⌜ length (now b) ≡ n * 4 ⌝ }
     requires { ⌜ length (now x) ≡ n * 4 ⌝ }
-    ensures { λ _. ⌜ decode hyperDualLayout (now (x .exit)) ≡ tabulate (λ k. getD (decode hyperDualLayout (now (b .entry))) (getD (now (order .entry)) k 0) (zeroOf hyperDualAlgebra)) n 0 ⌝ }
+    ensures { λ _. ⌜ decode hyperDualLayout (now (x .exit)) ≡ solveStarts hyperDualAlgebra n (now (order .entry)) (decode hyperDualLayout (now (b .entry))) ⌝ }
 {
     for k in 0..n {
         let p = order[k];

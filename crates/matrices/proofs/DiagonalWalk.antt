@@ -14,9 +14,9 @@ use Rattle.algebra.specs.Outcome.{value, refused}
 use Rattle.algebra.proofs.Loop.{upto-turn, upto-end}
 use Rattle.algebra.proofs.Laws.{Laws}
 use Rattle.matrices.specs.Entries.{countRefusal, swapsRefusal, determinantRefusal, determinantLeft}
-use Rattle.matrices.specs.Determinant.{diagonal, determinantOf}
+use Rattle.matrices.specs.Determinant.{signed, diagonalProduct, determinantOf}
 use Rattle.matrices.specs.Matrix.{Square, cell}
-use Rattle.matrices.specs.Order.{isOrder, isOdd}
+use Rattle.matrices.specs.Order.{isOrder}
 use Rattle.matrices.specs.Walk.{marksNone, marksWith, isFull, walkedRefusal}
 use Rattle.matrices.specs.declared.Marks.{Marks}
 use Rattle.matrices.proofs.Answers.{determinant-done, determinant-refused}
@@ -25,23 +25,23 @@ use Rattle.matrices.proofs.Walk.{Marking, marking, mark-turn, mark-stop
 
 module _ {R : Type 0} {A : Algebra R} {L : Layout R} (Q : Laws A L) where
   abbrev pub Multiplying : ℕ → List Float → R → ℕ → Type 0
-  Multiplying n a x i = upto i n (λ k y. A .mul y (cell A n (decode L a) k k)) x ≡ diagonal A n (decode L a)
+  Multiplying n a x i = upto i n (λ k y. A .mul y (cell A n (decode L a) k k)) x ≡ diagonalProduct A n (decode L a)
 
   pub multiplying : (n : ℕ) (a : List Float) → Multiplying n a (oneOf A) 0
-  unfolding diagonal
+  unfolding diagonalProduct
   multiplying n a = refl
 
   pub multiply-turn : (n : ℕ) (a : List Float) (x u y : R) (i : ℕ) → Multiplying n a x i → i < n → u ≡ getD (decode L a) (i * n + i) (zeroOf A) → y ≡ A .mul x u → Multiplying n a y (i + 1)
   unfolding cell
   multiply-turn n a x u y i m h eu ey = upto-turn i n _ x y h (ey ∙ ap (A .mul x) eu) m
 
-  pub multiply-end : (n : ℕ) (a : List Float) (x : R) (i : ℕ) → Multiplying n a x i → n ≤ i → x ≡ diagonal A n (decode L a)
+  pub multiply-end : (n : ℕ) (a : List Float) (x : R) (i : ℕ) → Multiplying n a x i → n ≤ i → x ≡ diagonalProduct A n (decode L a)
   multiply-end n a x i m h = upto-end i n _ x h m
 
-  pub sign-odd : (swaps : ℕ) (x y : R) → swaps % 2 ≡ 1 → y ≡ A .neg x → y ≡ cond (isOdd swaps) (A .neg x) x
+  pub sign-odd : (swaps : ℕ) (x y : R) → swaps % 2 ≡ 1 → y ≡ A .neg x → y ≡ signed A swaps x
   sign-odd swaps x y h e = rw (sym (odd-mod swaps) ∙ eq-eqb _ _ h) e
 
-  pub sign-even : (swaps : ℕ) (x : R) → (swaps % 2 ≡ 1 → ⊥) → x ≡ cond (isOdd swaps) (A .neg x) x
+  pub sign-even : (swaps : ℕ) (x : R) → (swaps % 2 ≡ 1 → ⊥) → x ≡ signed A swaps x
   sign-even swaps x h = rw (sym (odd-mod swaps) ∙ ne-eqb _ _ h) refl
 
   -- before turn i of the walk that tests the order as it multiplies
@@ -81,8 +81,8 @@ module _ {R : Type 0} {A : Algebra R} {L : Layout R} (Q : Laws A L) where
     pub walk-refused : (k ≡ 0 → ⊥) → refused k ≡ determinantLeft A L n a o s
     walk-refused ne = determinant-refused A L n a o s k counted ne
 
-    pub walk-end : (y : R) → k ≡ 0 → y ≡ cond (isOdd s) (A .neg x) x → value y ≡ determinantLeft A L n a o s
+    pub walk-end : (y : R) → k ≡ 0 → y ≡ signed A s x → value y ≡ determinantLeft A L n a o s
     unfolding determinantOf
     walk-end y z ey =
-        ap (λ (v : R). value v) (ey ∙ ap (λ (v : R). cond (isOdd s) (A .neg v) v) (multiply-end n a x i (w .product) h))
+        ap (λ (v : R). value v) (ey ∙ ap (signed A s) (multiply-end n a x i (w .product) h))
         ∙ determinant-done A L n a o s (sym counted ∙ z)

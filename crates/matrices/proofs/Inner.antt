@@ -11,15 +11,15 @@ use Rattle.algebra.specs.Algebra.{Algebra, zeroOf}
 use Rattle.algebra.specs.Loop.{upto}
 use Rattle.algebra.proofs.Loop.{upto-carry}
 use Rattle.matrices.specs.Matrix.{cell, store}
-use Rattle.matrices.specs.Lu.{subtract}
-use Rattle.matrices.specs.Solve.{element, assign, less, eliminate, divide, backRow}
+use Rattle.matrices.specs.Lu.{subtract, subtractMultiple}
+use Rattle.matrices.specs.Solve.{element, assign, less, lessRow, eliminate, forwardRowFrom, divide, backRow}
 
 module _ {R : Type 0} (A : Algebra R) (n : ℕ) where
   -- the code of one subtraction, with the multiplier x in hand
   pub subtract-by : (i j k : ℕ) (x : R) (a : List R) → cell A n a j i ≡ x
-      → set a (j * n + k) (A .sub (getD a (j * n + k) (zeroOf A)) (A .mul x (getD a (i * n + k) (zeroOf A)))) ≡ subtract A n i j k a
+      → subtractMultiple A (j * n + k) (i * n + k) x a ≡ subtract A n i j k a
   unfolding subtract store cell
-  subtract-by i j k x a e = ap (λ (y : R). set a (j * n + k) (A .sub (getD a (j * n + k) (zeroOf A)) (A .mul y (getD a (i * n + k) (zeroOf A))))) (sym e)
+  subtract-by i j k x a e = ap (λ (y : R). subtractMultiple A (j * n + k) (i * n + k) y a) (sym e)
 
   -- a subtraction leaves the multiplier as it is
   pub multiplier-stays : (i j k : ℕ) (a : List R) → i < k → cell A n (subtract A n i j k a) j i ≡ cell A n a j i
@@ -41,7 +41,7 @@ stride-apart s b i k z ne e = go (decLt k i)
 
 module _ {R : Type 0} (A : Algebra R) (n : ℕ) (a : List R) (stride base : ℕ) (some : 0 < stride) (x : List R) (i : ℕ) (inside : i * stride + base < length x) where
   eliminated : (lo hi : ℕ) → ((k : ℕ) → lo ≤ k → k < hi → k ≡ i → ⊥) → (v : R)
-      → upto lo hi (eliminate A n a stride base i) (assign A n a stride base x i v) ≡ assign A n a stride base x i (upto lo hi (less A n a stride base i x) v)
+      → upto lo hi (eliminate A n a stride base i) (assign A n a stride base x i v) ≡ assign A n a stride base x i (lessRow A n a stride base i x lo hi v)
   unfolding eliminate less
   eliminated lo hi ne v =
       sym (upto-carry (assign A n a stride base x i) (less A n a stride base i x) (eliminate A n a stride base i) lo hi
@@ -53,16 +53,16 @@ module _ {R : Type 0} (A : Algebra R) (n : ℕ) (a : List R) (stride base : ℕ)
 
   -- from what stands in x[i]
   row-by : (lo hi : ℕ) → ((k : ℕ) → lo ≤ k → k < hi → k ≡ i → ⊥)
-      → upto lo hi (eliminate A n a stride base i) x ≡ assign A n a stride base x i (upto lo hi (less A n a stride base i x) (element A n a stride base x i))
+      → upto lo hi (eliminate A n a stride base i) x ≡ assign A n a stride base x i (lessRow A n a stride base i x lo hi (element A n a stride base x i))
   row-by lo hi ne = ap (upto lo hi (eliminate A n a stride base i)) (sym (set-getD x (i * stride + base) (zeroOf A))) ∙ eliminated lo hi ne (element A n a stride base x i)
 
-  pub forward-by : upto 0 i (eliminate A n a stride base i) x ≡ assign A n a stride base x i (upto 0 i (less A n a stride base i x) (element A n a stride base x i))
+  pub forward-by : forwardRowFrom A n a stride base i x ≡ assign A n a stride base x i (lessRow A n a stride base i x 0 i (element A n a stride base x i))
   forward-by = row-by 0 i (λ k l h e. omega arith)
 
-  pub backRow-by : backRow A n a stride base i x ≡ assign A n a stride base x i (A .div (upto (i + 1) n (less A n a stride base i x) (element A n a stride base x i)) (cell A n a i i))
+  pub backRow-by : backRow A n a stride base i x ≡ assign A n a stride base x i (A .div (lessRow A n a stride base i x (i + 1) n (element A n a stride base x i)) (cell A n a i i))
   unfolding backRow divide
   backRow-by =
-      let v = upto (i + 1) n (less A n a stride base i x) (element A n a stride base x i) in
+      let v = lessRow A n a stride base i x (i + 1) n (element A n a stride base x i) in
       ap (divide A n a stride base i) (row-by (i + 1) n (λ k l h e. omega arith))
       ∙ set-set x (i * stride + base) v _
       ∙ ap (λ (u : R). set x (i * stride + base) (A .div u (cell A n a i i))) (getD-set-same x (i * stride + base) v (zeroOf A) inside)

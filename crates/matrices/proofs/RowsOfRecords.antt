@@ -14,7 +14,7 @@ use Rattle.algebra.specs.Flat.{Layout, Lawful, Agrees, realParts, recordAt, rec
 use Rattle.algebra.proofs.Flat.{decode-length, decode-size, decode-at, decode-is, decode-reals, record-same}
 use Rattle.algebra.proofs.Loop.{upto-reach}
 use Rattle.matrices.specs.Matrix.{Square, exchange, exchangeRows}
-use Rattle.matrices.specs.Lu.{going, bringPivot, pivotOf, reduceRun, column}
+use Rattle.matrices.specs.Lu.{going, bringPivot, bringPivotFlat, pivotOf, reduceRun, column}
 use Rattle.matrices.specs.RunAfter.{runAfter}
 use Rattle.matrices.specs.declared.AfterColumn.{AfterColumn}
 use Rattle.matrices.specs.declared.AfterColumn.the-variants.{Singular, Going}
@@ -171,7 +171,7 @@ module _ {R : Type 0} (L : Layout R) (W : Lawful L) (n : ℕ) (l : List Float) (
 
   -- what the code brings up by real parts and floats is what the record's definition does
   pub decode-bringPivot : (A : Algebra R) → RealParts A → Agrees A L → (i : ℕ) (p : List ℕ) (swaps : ℕ) → i < n
-      → mapRun (decode L) (bringPivot float.zero (n * L .width) (pivotOf reals n (realParts (L .width) l) i) i l p swaps) ≡ bringPivot (zeroOf A) n (pivotOf A n (decode L l) i) i (decode L l) p swaps
+      → mapRun (decode L) (bringPivotFlat (L .width) n i l p swaps) ≡ bringPivot (zeroOf A) n (pivotOf A n (decode L l) i) i (decode L l) p swaps
   decode-bringPivot A K G i p swaps h =
       let e = pivot-map A reals (A .re) K n (decode L l) i ∙ ap (λ (m : List Float). pivotOf reals n m i) (decode-reals L W A G l) in
       rw (← e)
@@ -180,7 +180,7 @@ module _ {R : Type 0} (L : Layout R) (W : Lawful L) (n : ℕ) (l : List Float) (
 
   -- a column of LU, from what the code has brought up
   pub column-by : (A : Algebra R) → RealParts A → Agrees A L → (i : ℕ) (p : List ℕ) (swaps : ℕ) → i < n → (r : AfterColumn) (l′ : List Float) (p′ : List ℕ)
-      → runAfter r l′ p′ ≡ bringPivot float.zero (n * L .width) (pivotOf reals n (realParts (L .width) l) i) i l p swaps
+      → runAfter r l′ p′ ≡ bringPivotFlat (L .width) n i l p swaps
       → column A n i (going (decode L l) p swaps) ≡ reduceRun A n i (runAfter r (decode L l′) p′)
   unfolding column
   column-by A K G i p swaps h r l′ p′ e = ap (reduceRun A n i) (sym (decode-bringPivot A K G i p swaps h) ∙ ap (mapRun (decode L)) (sym e) ∙ after r)

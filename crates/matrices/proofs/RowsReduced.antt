@@ -12,7 +12,7 @@ use Rattle.algebra.specs.Loop.{upto}
 use Rattle.algebra.proofs.Loop.{upto-turn, upto-end}
 use Rattle.algebra.proofs.Cells.{held}
 use Rattle.algebra.proofs.Laws.{Laws}
-use Rattle.matrices.specs.Lu.{subtract, reduceRow, reduce}
+use Rattle.matrices.specs.Lu.{subtractMultiple, subtract, subtractRow, reduceRow, reduce}
 use Rattle.matrices.specs.Matrix.{RowPlace, cell, store}
 use Rattle.matrices.proofs.Inner.{subtract-by, multiplier-stays, multiplier-is}
 use Rattle.matrices.proofs.Turns.{Running}
@@ -23,13 +23,13 @@ module _ {R : Type 0} {A : Algebra R} {L : Layout R} (Q : Laws A L) where
     pub from : i < k
     pub size : length a ≡ length a₀
     pub multiplier : cell A n (decode L a) j i ≡ x
-    pub rest : upto k n (subtract A n i j) (decode L a) ≡ upto (i + 1) n (subtract A n i j) (decode L a₀)
+    pub rest : upto k n (subtract A n i j) (decode L a) ≡ subtractRow A n i j (decode L a₀)
 
   pub subtract-start : (n : ℕ) (a : List Float) (i j : ℕ) (x : R) → cell A n (decode L a) j i ≡ x → Subtracting n a i j x a (i + 1)
   subtract-start n a i j x e = record { from = omega arith; size = refl; multiplier = e; rest = refl }
 
   pub subtract-turn : (n : ℕ) (a₀ : List Float) (i j : ℕ) (x : R) (a a′ : List Float) (k : ℕ) → Subtracting n a₀ i j x a k → k < n → length a′ ≡ length a
-      → decode L a′ ≡ set (decode L a) (j * n + k) (A .sub (getD (decode L a) (j * n + k) (zeroOf A)) (A .mul x (getD (decode L a) (i * n + k) (zeroOf A))))
+      → decode L a′ ≡ subtractMultiple A (j * n + k) (i * n + k) x (decode L a)
       → Subtracting n a₀ i j x a′ (k + 1)
   subtract-turn n a₀ i j x a a′ k r h s w =
       let e = w ∙ subtract-by A n i j k x (decode L a) (r .multiplier) in
@@ -40,7 +40,7 @@ module _ {R : Type 0} {A : Algebra R} {L : Layout R} (Q : Laws A L) where
         rest = upto-turn k n (subtract A n i j) (decode L a) (decode L a′) h e (r .rest);
       }
 
-  pub subtract-end : (n : ℕ) (a₀ : List Float) (i j : ℕ) (x : R) (a : List Float) (k : ℕ) → Subtracting n a₀ i j x a k → n ≤ k → decode L a ≡ upto (i + 1) n (subtract A n i j) (decode L a₀)
+  pub subtract-end : (n : ℕ) (a₀ : List Float) (i j : ℕ) (x : R) (a : List Float) (k : ℕ) → Subtracting n a₀ i j x a k → n ≤ k → decode L a ≡ subtractRow A n i j (decode L a₀)
   subtract-end n a₀ i j x a k r h = upto-end k n (subtract A n i j) (decode L a) h (r .rest)
 
   -- the multiplier is stored, and is what stands there
@@ -53,10 +53,10 @@ module _ {R : Type 0} {A : Algebra R} {L : Layout R} (Q : Laws A L) where
 
   -- from the calls: the two records read, their quotient stored, the rest of the row
   pub reduced : (n i j : ℕ) (a a′ a″ : List Float) (u v x : R) → u ≡ getD (decode L a) (j * n + i) (zeroOf A) → v ≡ getD (decode L a) (i * n + i) (zeroOf A) → x ≡ A .div u v
-      → decode L a′ ≡ set (decode L a) (j * n + i) x → decode L a″ ≡ upto (i + 1) n (subtract A n i j) (decode L a′) → decode L a″ ≡ reduceRow A n i j (decode L a)
+      → decode L a′ ≡ set (decode L a) (j * n + i) x → decode L a″ ≡ subtractRow A n i j (decode L a′) → decode L a″ ≡ reduceRow A n i j (decode L a)
   unfolding reduceRow store cell
   reduced n i j a a′ a″ u v x eu ev ex es er =
-      er ∙ ap (upto (i + 1) n (subtract A n i j)) (es ∙ ap (set (decode L a) (j * n + i)) (ex ∙ (λ t. A .div (eu t) (ev t))))
+      er ∙ ap (subtractRow A n i j) (es ∙ ap (set (decode L a) (j * n + i)) (ex ∙ (λ t. A .div (eu t) (ev t))))
 
   -- every row below i
   abbrev pub Reducing : ℕ → List Float → ℕ → List Float → ℕ → Type 0

@@ -15,7 +15,7 @@ use Rattle.algebra.proofs.Loop.{upto-map}
 use Rattle.matrices.specs.Matrix.{exchange, exchangeRows, cell, store}
 use Rattle.matrices.specs.Lu.{Run, going, singular, better, bringPivot, countUp, pivotOf, subtract, reduceRow, reduce, reduceRun, column, luOf}
 use Rattle.matrices.specs.Solve.{less, eliminate, forwardRow, forward, divide, backRow, back, substitute, solveOf}
-use Rattle.matrices.specs.Determinant.{diagonal, determinantOf}
+use Rattle.matrices.specs.Determinant.{diagonalProduct, determinantOf}
 use Rattle.matrices.specs.Inverse.{unit, inverseColumn, inverseOf}
 use Rattle.matrices.specs.Order.{isOdd}
 use Rattle.matrices.specs.declared.Pivot.{Pivot}
@@ -168,7 +168,7 @@ module _ {R S : Type 0} (A : Algebra R) (B : Algebra S) (h : R → S) (H : Keeps
   -- ---- determinant
 
   pub determinant-map : (a : List R) (swaps : ℕ) → h (determinantOf A n a swaps) ≡ determinantOf B n (map h a) swaps
-  unfolding determinantOf diagonal
+  unfolding determinantOf diagonalProduct
   determinant-map a swaps = go (isOdd swaps) (upto-map h (λ i x. A .mul x (cell A n a i i)) (λ i x. B .mul x (cell B n (map h a) i i)) (λ i x. H .mul x (cell A n a i i) ∙ ap (B .mul (h x)) (cell-map a i i)) 0 n (oneOf A) ∙ ap (upto 0 n (λ i x. B .mul x (cell B n (map h a) i i))) (H .fromRe float.one))
     where
       go : (t : Bool) {x : R} {y : S} → h x ≡ y → h (cond t (A .neg x) x) ≡ cond t (B .neg y) y

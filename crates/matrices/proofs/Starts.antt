@@ -16,7 +16,7 @@ use Rattle.algebra.specs.Loop.{upto}
 use Rattle.algebra.proofs.Flat.{tabulate-length, tabulate-at}
 use Rattle.algebra.proofs.Loop.{upto-carry, upto-apart, upto-same, upto-reach}
 use Rattle.matrices.specs.Matrix.{cell, store}
-use Rattle.matrices.specs.Solve.{assign, less, eliminate, forwardRow, forward, divide, backRow, back, substitute, forwardFrom, substituteFrom, solveOf}
+use Rattle.matrices.specs.Solve.{assign, less, eliminate, forwardRow, forward, divide, backRow, back, substitute, forwardFrom, substituteFrom, solveStarts, solveOf}
 use Rattle.matrices.specs.Inverse.{unit, inverseColumn, inverseOf, units}
 use Rattle.matrices.specs.Order.{Order}
 use Rattle.floats.proofs.Fill.{Filled, filled-more, filled-all}
@@ -100,7 +100,7 @@ module _ {R : Type 0} (A : Algebra R) (n : ℕ) (a : List R) (p : List ℕ) (b :
   abbrev start : ℕ → R
   start i = getD b (getD p i 0) (zeroOf A)
 
-  pub solve-by : solveOf A n a p b ≡ substituteFrom A n a 1 0 (tabulate start n 0)
+  pub solve-by : solveOf A n a p b ≡ substituteFrom A n a 1 0 (solveStarts A n p b)
   unfolding solveOf substitute substituteFrom
   solve-by =
       ap (back A n a 1 0) (forward-from A n a 1 0 (omega arith) start (replicate n (zeroOf A)) ∙ ap (forwardFrom A n a 1 0) written)
@@ -114,7 +114,7 @@ module _ {R : Type 0} (A : Algebra R) (n : ℕ) (a : List R) (p : List ℕ) (b :
           (λ i y l h f. let e : i * 1 + 0 ≡ i = omega arith in rw e (length-set y i (start i) ∙ f .0, filled-more (zeroOf A) start y i (let z = f .0 in omega arith) (f .1)))
           (replicate n (zeroOf A)) (length-replicate n (zeroOf A), λ k h. absurd (omega arith))
 
-      written : full ≡ tabulate start n 0
+      written : full ≡ solveStarts A n p b
       written =
           let z = held .0 in
           filled-all (zeroOf A) start full (tabulate start n 0) n (omega arith) (held .0 ∙ sym (tabulate-length start n 0)) (held .1) (λ k h. tabulate-at start n 0 k (zeroOf A) (omega arith) ∙ ap start (omega arith))

@@ -15,7 +15,7 @@ use Rattle.algebra.proofs.Laws.{Laws}
 use Rattle.matrices.specs.Inverse.{units, inverseOf}
 use Rattle.matrices.specs.Matrix.{Square, store}
 use Rattle.matrices.specs.Order.{Order}
-use Rattle.matrices.specs.Solve.{substituteFrom, solveOf}
+use Rattle.matrices.specs.Solve.{substituteFrom, solveStarts, solveOf}
 use Rattle.floats.proofs.Fill.{Filled, filled-more, filled-all}
 use Rattle.matrices.proofs.Starts.{solve-by, inverse-by}
 use Rattle.matrices.proofs.Turns.{Running, run-turn}
@@ -46,7 +46,7 @@ module _ {R : Type 0} {A : Algebra R} {L : Layout R} (Q : Laws A L) where
       let k = holds Q x n (t .size ∙ z) in
       filled-all (zeroOf A) f (decode L x) (tabulate f n 0) i (omega arith) (k ∙ sym (tabulate-length f n 0)) (t .filled) (λ j b. tabulate-at f n 0 j (zeroOf A) (omega arith) ∙ ap f (omega arith))
 
-  pub solved : (n : ℕ) (a b x′ x″ : List Float) (p : List ℕ) → decode L x′ ≡ tabulate (startOf p b) n 0 → decode L x″ ≡ substituteFrom A n (decode L a) 1 0 (decode L x′)
+  pub solved : (n : ℕ) (a b x′ x″ : List Float) (p : List ℕ) → decode L x′ ≡ solveStarts A n p (decode L b) → decode L x″ ≡ substituteFrom A n (decode L a) 1 0 (decode L x′)
       → decode L x″ ≡ solveOf A n (decode L a) p (decode L b)
   solved n a b x′ x″ p e f = f ∙ ap (substituteFrom A n (decode L a) 1 0) e ∙ sym (solve-by A n (decode L a) p (decode L b))
 

@@ -11,45 +11,45 @@ use Rattle.algebra.proofs.Loop.{upto-turn, upto-end}
 use Rattle.algebra.proofs.Cells.{held}
 use Rattle.algebra.proofs.Laws.{Laws}
 use Rattle.matrices.specs.Matrix.{cell}
-use Rattle.matrices.specs.Solve.{Strided, less, eliminate, forwardFrom, backRow, back, substituteFrom}
+use Rattle.matrices.specs.Solve.{Strided, less, lessRow, lessProduct, forwardRowFrom, forwardFrom, backRow, back, substituteFrom}
 use Rattle.matrices.proofs.Inner.{forward-by, backRow-by}
 use Rattle.matrices.proofs.Turns.{Running}
 
 module _ {R : Type 0} {A : Algebra R} {L : Layout R} (Q : Laws A L) where
   pub forwarded : (n stride base i : ℕ) (a x x′ : List Float) (u r : R) → Strided (L .width) n stride base x → (i * stride + base) * L .width + L .width ≤ length x
-      → u ≡ getD (decode L x) (i * stride + base) (zeroOf A) → r ≡ upto 0 i (less A n (decode L a) stride base i (decode L x)) u
-      → decode L x′ ≡ set (decode L x) (i * stride + base) r → decode L x′ ≡ upto 0 i (eliminate A n (decode L a) stride base i) (decode L x)
+      → u ≡ getD (decode L x) (i * stride + base) (zeroOf A) → r ≡ lessRow A n (decode L a) stride base i (decode L x) 0 i u
+      → decode L x′ ≡ set (decode L x) (i * stride + base) r → decode L x′ ≡ forwardRowFrom A n (decode L a) stride base i (decode L x)
   forwarded n stride base i a x x′ u r s h eu er e =
-      e ∙ ap (set (decode L x) (i * stride + base)) (er ∙ ap (upto 0 i (less A n (decode L a) stride base i (decode L x))) eu)
+      e ∙ ap (set (decode L x) (i * stride + base)) (er ∙ ap (lessRow A n (decode L a) stride base i (decode L x) 0 i) eu)
       ∙ sym (forward-by A n (decode L a) stride base (s .some) (decode L x) i (held Q x (i * stride + base) h))
 
   pub backed : (n stride base i : ℕ) (a x x′ : List Float) (u r v y : R) → Strided (L .width) n stride base x → (i * stride + base) * L .width + L .width ≤ length x
-      → u ≡ getD (decode L x) (i * stride + base) (zeroOf A) → r ≡ upto (i + 1) n (less A n (decode L a) stride base i (decode L x)) u → v ≡ getD (decode L a) (i * n + i) (zeroOf A) → y ≡ A .div r v
+      → u ≡ getD (decode L x) (i * stride + base) (zeroOf A) → r ≡ lessRow A n (decode L a) stride base i (decode L x) (i + 1) n u → v ≡ getD (decode L a) (i * n + i) (zeroOf A) → y ≡ A .div r v
       → decode L x′ ≡ set (decode L x) (i * stride + base) y → decode L x′ ≡ backRow A n (decode L a) stride base i (decode L x)
   unfolding cell
   backed n stride base i a x x′ u r v y s h eu er ev ey e =
-      e ∙ ap (set (decode L x) (i * stride + base)) (ey ∙ (λ t. A .div ((er ∙ ap (upto (i + 1) n (less A n (decode L a) stride base i (decode L x))) eu) t) (ev t)))
+      e ∙ ap (set (decode L x) (i * stride + base)) (ey ∙ (λ t. A .div ((er ∙ ap (lessRow A n (decode L a) stride base i (decode L x) (i + 1) n) eu) t) (ev t)))
       ∙ sym (backRow-by A n (decode L a) stride base (s .some) (decode L x) i (held Q x (i * stride + base) h))
 
   -- the products of a row, taken from r
   abbrev pub Lessening : ℕ → List Float → List Float → ℕ → ℕ → ℕ → ℕ → ℕ → R → R → ℕ → Type 0
-  Lessening n a x stride base i lo hi r₀ r k = upto k hi (less A n (decode L a) stride base i (decode L x)) r ≡ upto lo hi (less A n (decode L a) stride base i (decode L x)) r₀
+  Lessening n a x stride base i lo hi r₀ r k = lessRow A n (decode L a) stride base i (decode L x) k hi r ≡ lessRow A n (decode L a) stride base i (decode L x) lo hi r₀
 
   pub lessening : (n : ℕ) (a x : List Float) (stride base i lo hi : ℕ) (r : R) → Lessening n a x stride base i lo hi r r lo
   lessening n a x stride base i lo hi r = refl
 
   pub less-turn : (n : ℕ) (a x : List Float) (stride base i lo hi : ℕ) (r₀ r r′ : R) (k : ℕ) → Lessening n a x stride base i lo hi r₀ r k → k < hi
-      → r′ ≡ A .sub r (A .mul (getD (decode L a) (i * n + k) (zeroOf A)) (getD (decode L x) (k * stride + base) (zeroOf A))) → Lessening n a x stride base i lo hi r₀ r′ (k + 1)
+      → r′ ≡ lessProduct A r (decode L a) (i * n + k) (decode L x) (k * stride + base) → Lessening n a x stride base i lo hi r₀ r′ (k + 1)
   unfolding less cell
   less-turn n a x stride base i lo hi r₀ r r′ k m h e = upto-turn k hi _ r r′ h e m
 
   pub less-end : (n : ℕ) (a x : List Float) (stride base i lo hi : ℕ) (r₀ r : R) (k : ℕ) → Lessening n a x stride base i lo hi r₀ r k → hi ≤ k
-      → r ≡ upto lo hi (less A n (decode L a) stride base i (decode L x)) r₀
+      → r ≡ lessRow A n (decode L a) stride base i (decode L x) lo hi r₀
   less-end n a x stride base i lo hi r₀ r k m h = upto-end k hi _ r h m
 
   -- every element, from the first on and from the last back
   abbrev pub Forwarding : ℕ → List Float → List Float → ℕ → ℕ → List Float → ℕ → Type 0
-  Forwarding n a x₀ stride base x i = Running Q (λ k. upto 0 k (eliminate A n (decode L a) stride base k)) n x₀ x i (forwardFrom A n (decode L a) stride base (decode L x₀))
+  Forwarding n a x₀ stride base x i = Running Q (forwardRowFrom A n (decode L a) stride base) n x₀ x i (forwardFrom A n (decode L a) stride base (decode L x₀))
 
   pub forwarding : (n : ℕ) (a x : List Float) (stride base : ℕ) → Forwarding n a x stride base x 0
   unfolding forwardFrom

@@ -7,11 +7,15 @@ use Rattle.algebra.specs.Loop.{upto}
 use Rattle.matrices.specs.Matrix.{cell}
 use Rattle.matrices.specs.Order.{isOdd}
 
+-- negated where the count is odd
+abbrev pub signed : {R : Type 0} → Algebra R → ℕ → R → R
+signed A swaps x = cond (isOdd swaps) (A .neg x) x
+
 module _ {R : Type 0} (A : Algebra R) (n : ℕ) where
   -- the Product of the diagonal: from one, left to right
-  unfoldable pub diagonal : List R → R
-  diagonal a = upto 0 n (λ i x. A .mul x (cell A n a i i)) (oneOf A)
+  unfoldable pub diagonalProduct : List R → R
+  diagonalProduct a = upto 0 n (λ i x. A .mul x (cell A n a i i)) (oneOf A)
 
-  -- negated where the count is odd
+  -- with its sign
   unfoldable pub determinantOf : List R → ℕ → R
-  determinantOf a swaps = cond (isOdd swaps) (A .neg (diagonal a)) (diagonal a)
+  determinantOf a swaps = signed A swaps (diagonalProduct a)

@@ -1,13 +1,14 @@
 -- LU with row pivoting over any record: the steps of `LU::new` in linalg.rs. Definitions only.
-use Prim.Native.Nat.{ℕ, _+_}
+use Prim.Native.Nat.{ℕ, _+_, _*_}
 use mathlib.Core.Bool.{cond}
 use mathlib.Core.List.{List}
 use lib.Dec.{eqb}
+use lib.ListN.{getD, set}
 use lib.Ieee.{Float, lt, eq}
 use Rattle.real.specs.Operations as float
 use Rattle.real.specs.Sign.{absOf}
-use Rattle.algebra.specs.Algebra.{Algebra, zeroOf}
-use Rattle.algebra.specs.Flat.{tabulate}
+use Rattle.algebra.specs.Algebra.{Algebra, zeroOf, reals}
+use Rattle.algebra.specs.Flat.{tabulate, realParts}
 use Rattle.algebra.specs.Loop.{upto}
 use Rattle.matrices.specs.Matrix.{exchange, exchangeRows, cell, store}
 use Rattle.matrices.specs.declared.Pivot.{Pivot}
@@ -28,6 +29,10 @@ bringPivot d k b i a p swaps =
     (singular i)
     (cond (eqb (b .row) i) (going a p swaps) (going (exchangeRows d k i (b .row) a) (exchange 0 i (b .row) p) (swaps + 1)))
 
+-- the record `to`, less x times the record `from`: with the multiplier in hand
+abbrev pub subtractMultiple : {R : Type 0} → Algebra R → ℕ → ℕ → R → List R → List R
+subtractMultiple A to from x a = set a to (A .sub (getD a to (zeroOf A)) (A .mul x (getD a from (zeroOf A))))
+
 -- 0, 1, .., n - 1
 abbrev pub countUp : ℕ → List ℕ
 countUp n = tabulate (λ k. k) n 0
@@ -41,9 +46,13 @@ module _ {R : Type 0} (A : Algebra R) (n : ℕ) where
   unfoldable pub subtract : ℕ → ℕ → ℕ → List R → List R
   subtract i j k a = store A n a j k (A .sub (cell A n a j k) (A .mul (cell A n a j i) (cell A n a i k)))
 
-  -- a[(j, i)] = a[(j, i)] / a[(i, i)]; for k in i + 1..n
+  -- for k in i + 1..n
+  abbrev pub subtractRow : ℕ → ℕ → List R → List R
+  subtractRow i j a = upto (i + 1) n (subtract i j) a
+
+  -- a[(j, i)] = a[(j, i)] / a[(i, i)]; then the rest of the row
   unfoldable pub reduceRow : ℕ → ℕ → List R → List R
-  reduceRow i j a = upto (i + 1) n (subtract i j) (store A n a j i (A .div (cell A n a j i) (cell A n a i i)))
+  reduceRow i j a = subtractRow i j (store A n a j i (A .div (cell A n a j i) (cell A n a i i)))
 
   -- for j in i + 1..n
   unfoldable pub reduce : ℕ → List R → List R
@@ -62,3 +71,7 @@ module _ {R : Type 0} (A : Algebra R) (n : ℕ) where
   -- for i in 0..n
   unfoldable pub luOf : List R → Run R
   luOf a = upto 0 n column (going a (countUp n) 0)
+
+-- the pivot of column i brought up in flat floats, w a record: by the real parts, at n * w floats a row
+abbrev pub bringPivotFlat : ℕ → ℕ → ℕ → List Float → List ℕ → ℕ → Run Float
+bringPivotFlat w n i a p swaps = bringPivot float.zero (n * w) (pivotOf reals n (realParts w a) i) i a p swaps

@@ -4,6 +4,7 @@ use mathlib.Core.List.{List}
 use lib.ListN.{length, getD, set, replicate}
 use lib.Ieee.{Float}
 use Rattle.algebra.specs.Algebra.{Algebra, zeroOf}
+use Rattle.algebra.specs.Flat.{tabulate}
 use Rattle.algebra.specs.Loop.{upto}
 use Rattle.matrices.specs.Matrix.{cell}
 
@@ -25,6 +26,10 @@ module _ {R : Type 0} (A : Algebra R) (n : ℕ) (a : List R) (stride base : ℕ)
   -- v - a[(i, k)] * x[k]
   unfoldable pub less : ℕ → List R → ℕ → R → R
   less i x k v = A .sub v (A .mul (cell A n a i k) (element x k))
+
+  -- for k in lo..hi
+  abbrev pub lessRow : ℕ → List R → ℕ → ℕ → R → R
+  lessRow i x lo hi v = upto lo hi (less i x) v
 
   -- x[i] = x[i] - a[(i, k)] * x[k]
   unfoldable pub eliminate : ℕ → ℕ → List R → List R
@@ -55,11 +60,22 @@ module _ {R : Type 0} (A : Algebra R) (n : ℕ) (a : List R) (stride base : ℕ)
   substitute start x = back (forward start x)
 
   -- the same from starts that stand in x already (proofs/Starts.antt)
+  abbrev pub forwardRowFrom : ℕ → List R → List R
+  forwardRowFrom i x = upto 0 i (eliminate i) x
+
   unfoldable pub forwardFrom : List R → List R
-  forwardFrom x = upto 0 n (λ i. upto 0 i (eliminate i)) x
+  forwardFrom x = upto 0 n forwardRowFrom x
 
   unfoldable pub substituteFrom : List R → List R
   substituteFrom x = back (forwardFrom x)
+
+-- v - a[p] * x[q], by the places of the records
+abbrev pub lessProduct : {R : Type 0} → Algebra R → R → List R → ℕ → List R → ℕ → R
+lessProduct A v a p x q = A .sub v (A .mul (getD a p (zeroOf A)) (getD x q (zeroOf A)))
+
+-- the starts of solve, all at once: x[i] = b[p[i]]
+abbrev pub solveStarts : {R : Type 0} → Algebra R → ℕ → List ℕ → List R → List R
+solveStarts A n p b = tabulate (λ i. getD b (getD p i 0) (zeroOf A)) n 0
 
 -- the solution for the right-hand side b: x[i] starts as b[p[i]]
 unfoldable pub solveOf : {R : Type 0} → Algebra R → ℕ → List R → List ℕ → List R → List R

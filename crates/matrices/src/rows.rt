@@ -9,7 +9,7 @@ ghost use Rattle.real.specs.Operations as float;
 ghost use Rattle.algebra.specs.Algebra.{reals};
 ghost use Rattle.algebra.specs.Flat.{realParts};
 ghost use Rattle.matrices.specs.Matrix.{Square, exchangeRows};
-ghost use Rattle.matrices.specs.Lu.{better, pivotOf, bringPivot};
+ghost use Rattle.matrices.specs.Lu.{better, pivotOf, bringPivotFlat};
 ghost use Rattle.matrices.specs.RunAfter.{runAfter, swapsOf};
 
 // Row k with the real part x looked at.
@@ -71,7 +71,7 @@ pub fn bring_pivot(
     requires { ⌜ i < n ⌝ }
     requires { ⌜ swaps ≤ i ⌝ }
     ensures { λ r. ⌜ swapsOf r ≤ i + 1 ⌝ }
-    ensures { λ r. ⌜ runAfter r (now (a .exit)) (now (order .exit)) ≡ bringPivot float.zero (n * w) (pivotOf reals n (realParts w (now (a .entry))) i) i (now (a .entry)) (now (order .entry)) swaps ⌝ }
+    ensures { λ r. ⌜ runAfter r (now (a .exit)) (now (order .exit)) ≡ bringPivotFlat w n i (now (a .entry)) (now (order .entry)) swaps ⌝ }
 {
     let b = find_pivot(w, n, a, i);
     let magnitude = b.magnitude;
