@@ -76,10 +76,10 @@ use Rattle.dual.proofs.Dual.powd.Kinds as powd-k
 use Rattle.dual.proofs.Dual.powd.Reads as powd
 use Rattle.dual.proofs.Dual.apply.Kinds as apply-k
 use Rattle.dual.proofs.Dual.apply.Reads as apply
-use Rattle.dual.proofs.operations.sum.Kinds as sum-k
-use Rattle.dual.proofs.operations.sum.Reads as sum
-use Rattle.dual.proofs.operations.product.Kinds as product-k
-use Rattle.dual.proofs.operations.product.Reads as product
+use Rattle.dual.proofs.records.sum.Kinds as sum-k
+use Rattle.dual.proofs.records.sum.Reads as sum
+use Rattle.dual.proofs.records.product.Kinds as product-k
+use Rattle.dual.proofs.records.product.Reads as product
 
 -- two answers of one outcome are one
 pub outcome-one : (x y : DualAnswer) → outcome x ≡ outcome y → x ≡ y

@@ -1,11 +1,11 @@
 -- The rules of `Dual`, each a fixed sequence of operations, in the order and with the names of datatypes/dual.rs and macros.rs; then `Dual` as an
 -- `Algebra`, over which everything else is defined, and its layout in flat floats. Definitions only.
 use Prim.Native.Nat.{ℕ}
-use mathlib.Core.List.{[], _∷_}
+use mathlib.Core.List.{List, [], _∷_}
 use lib.Ieee.{Float, neg}
 use Rattle.real.specs.Operations.{_⊕_, _⊖_, _⊗_, _⊘_, zero, one}
 use Rattle.algebra.specs.Algebra.{Algebra}
-use Rattle.algebra.specs.Flat.{Layout}
+use Rattle.algebra.specs.Flat.{Layout, decode}
 use Rattle.algebra.specs.Outcome.{Outcome, value, refused}
 use Rattle.dual.specs.declared.Dual.{Dual}
 use Rattle.dual.specs.declared.DualSinCos.{DualSinCos}
@@ -82,6 +82,10 @@ dualLayout = record {
   parts = λ x. x .re ∷ x .eps ∷ [];
   make = λ part. dual (part 0) (part 1);
 }
+
+-- the records that flat floats hold
+abbrev pub dualRecords : List Float → List Dual
+dualRecords l = decode dualLayout l
 
 -- a sine and a cosine
 abbrev pub dualSinCos : Dual → Dual → DualSinCos

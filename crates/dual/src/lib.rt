@@ -1,10 +1,13 @@
-// Dual numbers for first derivatives: datatypes/dual.rs. The operators of macros.rs are in operations.rt, the functions of impl_derivatives.rs in
-// functions.rt.
+// Dual numbers for first derivatives: datatypes/dual.rs. The operators of macros.rs are in operations.rt, the functions of impl_derivatives.rs
+// in functions.rt, records in flat floats in records.rt.
 mod functions;
 mod operations;
+mod records;
 
-pub use operations::product;
-pub use operations::sum;
+pub use records::product;
+pub use records::read;
+pub use records::sum;
+pub use records::write;
 ghost use mathlib.Core.Path.{_≡_};
 ghost use Rattle.dual.specs.Rules.{dual, dualFromRe, dualDerivative, dualChain, dualMul, dualDiv};
 

@@ -1,17 +1,13 @@
 // The operators of macros.rs, by name.
 use crate::Dual;
-use crate::DualAnswer;
 ghost use mathlib.Core.Path.{_≡_};
 ghost use mathlib.Core.Bool.{not};
-ghost use Prim.Native.Nat.{_+_, _*_, _<_};
-ghost use lib.ListN.{length};
 ghost use lib.Ieee.{lt, le, eq};
 ghost use Rattle.real.specs.Operations.{zero, one};
 ghost use Rattle.real.specs.Sign.{signOf};
 ghost use Rattle.algebra.specs.Algebra.{zeroOf, oneOf, addFloat, subFloat, magnitude};
-ghost use Rattle.algebra.specs.Flat.{recordAt, sumOf, productOf};
 ghost use Rattle.derivatives.specs.Apply.{absSubOf, signumOf};
-ghost use Rattle.dual.specs.Rules.{dualAdd, dualSub, dualNeg, dualMulFloat, dualDivFloat, dualNderiv, dualAlgebra, dualLayout, outcome};
+ghost use Rattle.dual.specs.Rules.{dualAdd, dualSub, dualNeg, dualMulFloat, dualDivFloat, dualNderiv, dualAlgebra};
 
 impl Dual {
     pub fn zero() -> Self
@@ -179,49 +175,4 @@ impl Dual {
     {
         self.re >= other.re
     }
-}
-
-// The record number p of a run of flat floats.
-fn record_at(floats: &[f64], p: usize) -> Dual
-    requires { ⌜ p * 2 + 1 < length (now floats) ⌝ }
-    ensures { λ r. ⌜ r ≡ recordAt dualLayout (now (floats .entry)) p ⌝ }
-{
-    Dual {
-        re: floats[p * 2],
-        eps: floats[p * 2 + 1],
-    }
-}
-
-// From zero, left to right. A length that is not whole records is refused.
-pub fn sum(floats: &[f64]) -> DualAnswer
-    ensures { λ r. ⌜ outcome r ≡ sumOf dualLayout dualAlgebra (now (floats .entry)) ⌝ }
-{
-    if floats.len() % 2 != 0 {
-        return DualAnswer::Refused(refusals::WRONG_LENGTH);
-    }
-    let count = floats.len() / 2;
-    let mut acc = Dual::ZERO;
-    let mut p = 0;
-    while p < count {
-        acc = acc.add(record_at(floats, p));
-        p += 1;
-    }
-    DualAnswer::Value(acc)
-}
-
-// From one, left to right. A length that is not whole records is refused.
-pub fn product(floats: &[f64]) -> DualAnswer
-    ensures { λ r. ⌜ outcome r ≡ productOf dualLayout dualAlgebra (now (floats .entry)) ⌝ }
-{
-    if floats.len() % 2 != 0 {
-        return DualAnswer::Refused(refusals::WRONG_LENGTH);
-    }
-    let count = floats.len() / 2;
-    let mut acc = Dual::ONE;
-    let mut p = 0;
-    while p < count {
-        acc = acc.mul(record_at(floats, p));
-        p += 1;
-    }
-    DualAnswer::Value(acc)
 }

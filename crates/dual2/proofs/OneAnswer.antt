@@ -76,10 +76,10 @@ use Rattle.dual2.proofs.Dual2.powd.Kinds as powd-k
 use Rattle.dual2.proofs.Dual2.powd.Reads as powd
 use Rattle.dual2.proofs.Dual2.apply.Kinds as apply-k
 use Rattle.dual2.proofs.Dual2.apply.Reads as apply
-use Rattle.dual2.proofs.operations.sum.Kinds as sum-k
-use Rattle.dual2.proofs.operations.sum.Reads as sum
-use Rattle.dual2.proofs.operations.product.Kinds as product-k
-use Rattle.dual2.proofs.operations.product.Reads as product
+use Rattle.dual2.proofs.records.sum.Kinds as sum-k
+use Rattle.dual2.proofs.records.sum.Reads as sum
+use Rattle.dual2.proofs.records.product.Kinds as product-k
+use Rattle.dual2.proofs.records.product.Reads as product
 
 -- two answers of one outcome are one
 outcome-one : (x y : Dual2Answer) → outcome x ≡ outcome y → x ≡ y

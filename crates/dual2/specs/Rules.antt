@@ -1,11 +1,11 @@
 -- The rules of `Dual2`, each a fixed sequence of operations, in the order and with the names of datatypes/dual2.rs and macros.rs; then `Dual2` as an
 -- `Algebra`, over which everything else is defined, and its layout in flat floats. Definitions only.
 use Prim.Native.Nat.{ℕ}
-use mathlib.Core.List.{[], _∷_}
+use mathlib.Core.List.{List, [], _∷_}
 use lib.Ieee.{Float, neg}
 use Rattle.real.specs.Operations.{_⊕_, _⊖_, _⊗_, _⊘_, zero, one}
 use Rattle.algebra.specs.Algebra.{Algebra}
-use Rattle.algebra.specs.Flat.{Layout}
+use Rattle.algebra.specs.Flat.{Layout, decode}
 use Rattle.algebra.specs.Outcome.{Outcome, value, refused}
 use Rattle.dual2.specs.declared.Dual2.{Dual2}
 use Rattle.dual2.specs.declared.Dual2SinCos.{Dual2SinCos}
@@ -92,6 +92,10 @@ dual2Layout = record {
   parts = λ x. x .re ∷ x .v1 ∷ x .v2 ∷ [];
   make = λ part. dual2 (part 0) (part 1) (part 2);
 }
+
+-- the records that flat floats hold
+abbrev pub dual2Records : List Float → List Dual2
+dual2Records l = decode dual2Layout l
 
 -- a sine and a cosine
 abbrev pub dual2SinCos : Dual2 → Dual2 → Dual2SinCos

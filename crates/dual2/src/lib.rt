@@ -1,10 +1,13 @@
 // Second order dual numbers for second derivatives: datatypes/dual2.rs. The operators of macros.rs are in operations.rt, the functions of
-// impl_derivatives.rs in functions.rt.
+// impl_derivatives.rs in functions.rt, records in flat floats in records.rt.
 mod functions;
 mod operations;
+mod records;
 
-pub use operations::product;
-pub use operations::sum;
+pub use records::product;
+pub use records::read;
+pub use records::sum;
+pub use records::write;
 ghost use mathlib.Core.Path.{_≡_};
 ghost use Rattle.dual2.specs.Rules.{dual2, dual2Derivative, dual2FromRe, dual2Chain, dual2Mul, dual2Div};
 

@@ -1,17 +1,13 @@
 // The operators of macros.rs, by name.
 use crate::Dual2;
-use crate::Dual2Answer;
 ghost use mathlib.Core.Path.{_≡_};
 ghost use mathlib.Core.Bool.{not};
-ghost use Prim.Native.Nat.{_+_, _*_, _<_};
-ghost use lib.ListN.{length};
 ghost use lib.Ieee.{lt, le, eq};
 ghost use Rattle.real.specs.Operations.{zero, one};
 ghost use Rattle.real.specs.Sign.{signOf};
 ghost use Rattle.algebra.specs.Algebra.{zeroOf, oneOf, addFloat, subFloat, magnitude};
-ghost use Rattle.algebra.specs.Flat.{recordAt, sumOf, productOf};
 ghost use Rattle.derivatives.specs.Apply.{absSubOf, signumOf};
-ghost use Rattle.dual2.specs.Rules.{dual2Add, dual2Sub, dual2Neg, dual2MulFloat, dual2DivFloat, dual2Nderiv, dual2Algebra, dual2Layout, outcome};
+ghost use Rattle.dual2.specs.Rules.{dual2Add, dual2Sub, dual2Neg, dual2MulFloat, dual2DivFloat, dual2Nderiv, dual2Algebra};
 
 impl Dual2 {
     pub fn zero() -> Self
@@ -184,50 +180,4 @@ impl Dual2 {
     {
         self.re >= other.re
     }
-}
-
-// The record number p of a run of flat floats.
-fn record_at(floats: &[f64], p: usize) -> Dual2
-    requires { ⌜ p * 3 + 2 < length (now floats) ⌝ }
-    ensures { λ r. ⌜ r ≡ recordAt dual2Layout (now (floats .entry)) p ⌝ }
-{
-    Dual2 {
-        re: floats[p * 3],
-        v1: floats[p * 3 + 1],
-        v2: floats[p * 3 + 2],
-    }
-}
-
-// From zero, left to right. A length that is not whole records is refused.
-pub fn sum(floats: &[f64]) -> Dual2Answer
-    ensures { λ r. ⌜ outcome r ≡ sumOf dual2Layout dual2Algebra (now (floats .entry)) ⌝ }
-{
-    if floats.len() % 3 != 0 {
-        return Dual2Answer::Refused(refusals::WRONG_LENGTH);
-    }
-    let count = floats.len() / 3;
-    let mut acc = Dual2::ZERO;
-    let mut p = 0;
-    while p < count {
-        acc = acc.add(record_at(floats, p));
-        p += 1;
-    }
-    Dual2Answer::Value(acc)
-}
-
-// From one, left to right. A length that is not whole records is refused.
-pub fn product(floats: &[f64]) -> Dual2Answer
-    ensures { λ r. ⌜ outcome r ≡ productOf dual2Layout dual2Algebra (now (floats .entry)) ⌝ }
-{
-    if floats.len() % 3 != 0 {
-        return Dual2Answer::Refused(refusals::WRONG_LENGTH);
-    }
-    let count = floats.len() / 3;
-    let mut acc = Dual2::ONE;
-    let mut p = 0;
-    while p < count {
-        acc = acc.mul(record_at(floats, p));
-        p += 1;
-    }
-    Dual2Answer::Value(acc)
 }

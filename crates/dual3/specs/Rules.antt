@@ -1,11 +1,11 @@
 -- The rules of `Dual3`, each a fixed sequence of operations, in the order and with the names of datatypes/dual3.rs and macros.rs; then `Dual3` as an
 -- `Algebra`, over which everything else is defined, and its layout in flat floats. Definitions only.
 use Prim.Native.Nat.{ℕ}
-use mathlib.Core.List.{[], _∷_}
+use mathlib.Core.List.{List, [], _∷_}
 use lib.Ieee.{Float, neg}
 use Rattle.real.specs.Operations.{_⊕_, _⊖_, _⊗_, _⊘_, zero, one}
 use Rattle.algebra.specs.Algebra.{Algebra}
-use Rattle.algebra.specs.Flat.{Layout}
+use Rattle.algebra.specs.Flat.{Layout, decode}
 use Rattle.algebra.specs.Outcome.{Outcome, value, refused}
 use Rattle.derivatives.specs.Series.{recipSeries}
 use Rattle.dual3.specs.declared.Dual3.{Dual3}
@@ -96,6 +96,10 @@ dual3Layout = record {
   parts = λ x. x .re ∷ x .v1 ∷ x .v2 ∷ x .v3 ∷ [];
   make = λ part. dual3 (part 0) (part 1) (part 2) (part 3);
 }
+
+-- the records that flat floats hold
+abbrev pub dual3Records : List Float → List Dual3
+dual3Records l = decode dual3Layout l
 
 -- a sine and a cosine
 abbrev pub dual3SinCos : Dual3 → Dual3 → Dual3SinCos

@@ -1,11 +1,14 @@
 // Third order dual numbers for third derivatives: datatypes/dual3.rs. The operators of macros.rs are in operations.rt, the functions of
-// impl_derivatives.rs in functions.rt.
+// impl_derivatives.rs in functions.rt, records in flat floats in records.rt.
 mod functions;
 mod operations;
+mod records;
 
 use derivatives::Series;
-pub use operations::product;
-pub use operations::sum;
+pub use records::product;
+pub use records::read;
+pub use records::sum;
+pub use records::write;
 ghost use mathlib.Core.Path.{_≡_};
 ghost use Rattle.dual3.specs.Rules.{dual3, dual3FromRe, dual3Derivative, dual3Chain, dual3Mul, dual3Div};
 

@@ -1,17 +1,13 @@
 // The operators of macros.rs, by name.
 use crate::Dual3;
-use crate::Dual3Answer;
 ghost use mathlib.Core.Path.{_≡_};
 ghost use mathlib.Core.Bool.{not};
-ghost use Prim.Native.Nat.{_+_, _*_, _<_};
-ghost use lib.ListN.{length};
 ghost use lib.Ieee.{lt, le, eq};
 ghost use Rattle.real.specs.Operations.{zero, one};
 ghost use Rattle.real.specs.Sign.{signOf};
 ghost use Rattle.algebra.specs.Algebra.{zeroOf, oneOf, addFloat, subFloat, magnitude};
-ghost use Rattle.algebra.specs.Flat.{recordAt, sumOf, productOf};
 ghost use Rattle.derivatives.specs.Apply.{absSubOf, signumOf};
-ghost use Rattle.dual3.specs.Rules.{dual3Add, dual3Sub, dual3Neg, dual3MulFloat, dual3DivFloat, dual3Nderiv, dual3Algebra, dual3Layout, outcome};
+ghost use Rattle.dual3.specs.Rules.{dual3Add, dual3Sub, dual3Neg, dual3MulFloat, dual3DivFloat, dual3Nderiv, dual3Algebra};
 
 impl Dual3 {
     pub fn zero() -> Self
@@ -189,51 +185,4 @@ impl Dual3 {
     {
         self.re >= other.re
     }
-}
-
-// The record number p of a run of flat floats.
-fn record_at(floats: &[f64], p: usize) -> Dual3
-    requires { ⌜ p * 4 + 3 < length (now floats) ⌝ }
-    ensures { λ r. ⌜ r ≡ recordAt dual3Layout (now (floats .entry)) p ⌝ }
-{
-    Dual3 {
-        re: floats[p * 4],
-        v1: floats[p * 4 + 1],
-        v2: floats[p * 4 + 2],
-        v3: floats[p * 4 + 3],
-    }
-}
-
-// From zero, left to right. A length that is not whole records is refused.
-pub fn sum(floats: &[f64]) -> Dual3Answer
-    ensures { λ r. ⌜ outcome r ≡ sumOf dual3Layout dual3Algebra (now (floats .entry)) ⌝ }
-{
-    if floats.len() % 4 != 0 {
-        return Dual3Answer::Refused(refusals::WRONG_LENGTH);
-    }
-    let count = floats.len() / 4;
-    let mut acc = Dual3::ZERO;
-    let mut p = 0;
-    while p < count {
-        acc = acc.add(record_at(floats, p));
-        p += 1;
-    }
-    Dual3Answer::Value(acc)
-}
-
-// From one, left to right. A length that is not whole records is refused.
-pub fn product(floats: &[f64]) -> Dual3Answer
-    ensures { λ r. ⌜ outcome r ≡ productOf dual3Layout dual3Algebra (now (floats .entry)) ⌝ }
-{
-    if floats.len() % 4 != 0 {
-        return Dual3Answer::Refused(refusals::WRONG_LENGTH);
-    }
-    let count = floats.len() / 4;
-    let mut acc = Dual3::ONE;
-    let mut p = 0;
-    while p < count {
-        acc = acc.mul(record_at(floats, p));
-        p += 1;
-    }
-    Dual3Answer::Value(acc)
 }

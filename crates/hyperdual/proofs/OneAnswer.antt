@@ -78,10 +78,10 @@ use Rattle.hyperdual.proofs.HyperDual.powd.Kinds as powd-k
 use Rattle.hyperdual.proofs.HyperDual.powd.Reads as powd
 use Rattle.hyperdual.proofs.HyperDual.apply.Kinds as apply-k
 use Rattle.hyperdual.proofs.HyperDual.apply.Reads as apply
-use Rattle.hyperdual.proofs.operations.sum.Kinds as sum-k
-use Rattle.hyperdual.proofs.operations.sum.Reads as sum
-use Rattle.hyperdual.proofs.operations.product.Kinds as product-k
-use Rattle.hyperdual.proofs.operations.product.Reads as product
+use Rattle.hyperdual.proofs.records.sum.Kinds as sum-k
+use Rattle.hyperdual.proofs.records.sum.Reads as sum
+use Rattle.hyperdual.proofs.records.product.Kinds as product-k
+use Rattle.hyperdual.proofs.records.product.Reads as product
 
 -- two answers of one outcome are one
 pub outcome-one : (x y : HyperDualAnswer) → outcome x ≡ outcome y → x ≡ y

@@ -1,11 +1,11 @@
 -- The rules of `HyperDual`, each a fixed sequence of operations, in the order and with the names of datatypes/hyperdual.rs and macros.rs; then
 -- `HyperDual` as an `Algebra`, over which everything else is defined, and its layout in flat floats. Definitions only.
 use Prim.Native.Nat.{ℕ}
-use mathlib.Core.List.{[], _∷_}
+use mathlib.Core.List.{List, [], _∷_}
 use lib.Ieee.{Float, neg}
 use Rattle.real.specs.Operations.{_⊕_, _⊖_, _⊗_, _⊘_, zero, one}
 use Rattle.algebra.specs.Algebra.{Algebra}
-use Rattle.algebra.specs.Flat.{Layout}
+use Rattle.algebra.specs.Flat.{Layout, decode}
 use Rattle.algebra.specs.Outcome.{Outcome, value, refused}
 use Rattle.hyperdual.specs.declared.HyperDual.{HyperDual}
 use Rattle.hyperdual.specs.declared.HyperDualSinCos.{HyperDualSinCos}
@@ -101,6 +101,10 @@ hyperDualLayout = record {
   parts = λ x. x .re ∷ x .eps1 ∷ x .eps2 ∷ x .eps1eps2 ∷ [];
   make = λ part. hyperDual (part 0) (part 1) (part 2) (part 3);
 }
+
+-- the records that flat floats hold
+abbrev pub hyperDualRecords : List Float → List HyperDual
+hyperDualRecords l = decode hyperDualLayout l
 
 -- a sine and a cosine
 abbrev pub hyperDualSinCos : HyperDual → HyperDual → HyperDualSinCos

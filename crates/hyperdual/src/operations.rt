@@ -1,17 +1,13 @@
 // The operators of macros.rs, by name.
 use crate::HyperDual;
-use crate::HyperDualAnswer;
 ghost use mathlib.Core.Path.{_≡_};
 ghost use mathlib.Core.Bool.{not};
-ghost use Prim.Native.Nat.{_+_, _*_, _<_};
-ghost use lib.ListN.{length};
 ghost use lib.Ieee.{lt, le, eq};
 ghost use Rattle.real.specs.Operations.{zero, one};
 ghost use Rattle.real.specs.Sign.{signOf};
 ghost use Rattle.algebra.specs.Algebra.{zeroOf, oneOf, addFloat, subFloat, magnitude};
-ghost use Rattle.algebra.specs.Flat.{recordAt, sumOf, productOf};
 ghost use Rattle.derivatives.specs.Apply.{absSubOf, signumOf};
-ghost use Rattle.hyperdual.specs.Rules.{hyperDualAdd, hyperDualSub, hyperDualNeg, hyperDualMulFloat, hyperDualDivFloat, hyperDualNderiv, hyperDualAlgebra, hyperDualLayout, outcome};
+ghost use Rattle.hyperdual.specs.Rules.{hyperDualAdd, hyperDualSub, hyperDualNeg, hyperDualMulFloat, hyperDualDivFloat, hyperDualNderiv, hyperDualAlgebra};
 
 impl HyperDual {
     pub fn zero() -> Self
@@ -189,51 +185,4 @@ impl HyperDual {
     {
         self.re >= other.re
     }
-}
-
-// The record number p of a run of flat floats.
-fn record_at(floats: &[f64], p: usize) -> HyperDual
-    requires { ⌜ p * 4 + 3 < length (now floats) ⌝ }
-    ensures { λ r. ⌜ r ≡ recordAt hyperDualLayout (now (floats .entry)) p ⌝ }
-{
-    HyperDual {
-        re: floats[p * 4],
-        eps1: floats[p * 4 + 1],
-        eps2: floats[p * 4 + 2],
-        eps1eps2: floats[p * 4 + 3],
-    }
-}
-
-// From zero, left to right. A length that is not whole records is refused.
-pub fn sum(floats: &[f64]) -> HyperDualAnswer
-    ensures { λ r. ⌜ outcome r ≡ sumOf hyperDualLayout hyperDualAlgebra (now (floats .entry)) ⌝ }
-{
-    if floats.len() % 4 != 0 {
-        return HyperDualAnswer::Refused(refusals::WRONG_LENGTH);
-    }
-    let count = floats.len() / 4;
-    let mut acc = HyperDual::ZERO;
-    let mut p = 0;
-    while p < count {
-        acc = acc.add(record_at(floats, p));
-        p += 1;
-    }
-    HyperDualAnswer::Value(acc)
-}
-
-// From one, left to right. A length that is not whole records is refused.
-pub fn product(floats: &[f64]) -> HyperDualAnswer
-    ensures { λ r. ⌜ outcome r ≡ productOf hyperDualLayout hyperDualAlgebra (now (floats .entry)) ⌝ }
-{
-    if floats.len() % 4 != 0 {
-        return HyperDualAnswer::Refused(refusals::WRONG_LENGTH);
-    }
-    let count = floats.len() / 4;
-    let mut acc = HyperDual::ONE;
-    let mut p = 0;
-    while p < count {
-        acc = acc.mul(record_at(floats, p));
-        p += 1;
-    }
-    HyperDualAnswer::Value(acc)
 }

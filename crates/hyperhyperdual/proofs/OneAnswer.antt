@@ -80,10 +80,10 @@ use Rattle.hyperhyperdual.proofs.HyperHyperDual.powd.Kinds as powd-k
 use Rattle.hyperhyperdual.proofs.HyperHyperDual.powd.Reads as powd
 use Rattle.hyperhyperdual.proofs.HyperHyperDual.apply.Kinds as apply-k
 use Rattle.hyperhyperdual.proofs.HyperHyperDual.apply.Reads as apply
-use Rattle.hyperhyperdual.proofs.operations.sum.Kinds as sum-k
-use Rattle.hyperhyperdual.proofs.operations.sum.Reads as sum
-use Rattle.hyperhyperdual.proofs.operations.product.Kinds as product-k
-use Rattle.hyperhyperdual.proofs.operations.product.Reads as product
+use Rattle.hyperhyperdual.proofs.records.sum.Kinds as sum-k
+use Rattle.hyperhyperdual.proofs.records.sum.Reads as sum
+use Rattle.hyperhyperdual.proofs.records.product.Kinds as product-k
+use Rattle.hyperhyperdual.proofs.records.product.Reads as product
 
 -- two answers of one outcome are one
 outcome-one : (x y : HyperHyperDualAnswer) → outcome x ≡ outcome y → x ≡ y

@@ -1,11 +1,11 @@
 -- The rules of `HyperHyperDual`, each a fixed sequence of operations, in the order and with the names of datatypes/hyperhyperdual.rs and
 -- macros.rs; then `HyperHyperDual` as an `Algebra`, over which everything else is defined, and its layout in flat floats. Definitions only.
 use Prim.Native.Nat.{ℕ}
-use mathlib.Core.List.{[], _∷_}
+use mathlib.Core.List.{List, [], _∷_}
 use lib.Ieee.{Float, neg}
 use Rattle.real.specs.Operations.{_⊕_, _⊖_, _⊗_, _⊘_, zero, one}
 use Rattle.algebra.specs.Algebra.{Algebra}
-use Rattle.algebra.specs.Flat.{Layout}
+use Rattle.algebra.specs.Flat.{Layout, decode}
 use Rattle.algebra.specs.Outcome.{Outcome, value, refused}
 use Rattle.derivatives.specs.Series.{recipSeries}
 use Rattle.hyperhyperdual.specs.declared.HyperHyperDual.{HyperHyperDual}
@@ -154,6 +154,10 @@ hyperHyperDualLayout = record {
   parts = λ x. x .re ∷ x .eps1 ∷ x .eps2 ∷ x .eps3 ∷ x .eps1eps2 ∷ x .eps1eps3 ∷ x .eps2eps3 ∷ x .eps1eps2eps3 ∷ [];
   make = λ part. hyperHyperDual (part 0) (part 1) (part 2) (part 3) (part 4) (part 5) (part 6) (part 7);
 }
+
+-- the records that flat floats hold
+abbrev pub hyperHyperDualRecords : List Float → List HyperHyperDual
+hyperHyperDualRecords l = decode hyperHyperDualLayout l
 
 -- a sine and a cosine
 abbrev pub hyperHyperDualSinCos : HyperHyperDual → HyperHyperDual → HyperHyperDualSinCos

@@ -1,11 +1,14 @@
 // Hyper-hyper-dual numbers for third partial derivatives: datatypes/hyperhyperdual.rs. The operators of macros.rs are in operations.rt, the
-// functions of impl_derivatives.rs in functions.rt.
+// functions of impl_derivatives.rs in functions.rt, records in flat floats in records.rt.
 mod functions;
 mod operations;
+mod records;
 
 use derivatives::Series;
-pub use operations::product;
-pub use operations::sum;
+pub use records::product;
+pub use records::read;
+pub use records::sum;
+pub use records::write;
 ghost use mathlib.Core.Path.{_≡_};
 ghost use Rattle.hyperhyperdual.specs.Rules.{hyperHyperDual, hyperHyperDualDerivative1, hyperHyperDualDerivative2, hyperHyperDualDerivative3, hyperHyperDualFromRe, hyperHyperDualChain, hyperHyperDualMul, hyperHyperDualDiv};
 

@@ -1,17 +1,13 @@
 // The operators of macros.rs, by name.
 use crate::HyperHyperDual;
-use crate::HyperHyperDualAnswer;
 ghost use mathlib.Core.Path.{_≡_};
 ghost use mathlib.Core.Bool.{not};
-ghost use Prim.Native.Nat.{_+_, _*_, _<_};
-ghost use lib.ListN.{length};
 ghost use lib.Ieee.{lt, le, eq};
 ghost use Rattle.real.specs.Operations.{zero, one};
 ghost use Rattle.real.specs.Sign.{signOf};
 ghost use Rattle.algebra.specs.Algebra.{zeroOf, oneOf, addFloat, subFloat, magnitude};
-ghost use Rattle.algebra.specs.Flat.{recordAt, sumOf, productOf};
 ghost use Rattle.derivatives.specs.Apply.{absSubOf, signumOf};
-ghost use Rattle.hyperhyperdual.specs.Rules.{hyperHyperDualAdd, hyperHyperDualSub, hyperHyperDualNeg, hyperHyperDualMulFloat, hyperHyperDualDivFloat, hyperHyperDualNderiv, hyperHyperDualAlgebra, hyperHyperDualLayout, outcome};
+ghost use Rattle.hyperhyperdual.specs.Rules.{hyperHyperDualAdd, hyperHyperDualSub, hyperHyperDualNeg, hyperHyperDualMulFloat, hyperHyperDualDivFloat, hyperHyperDualNderiv, hyperHyperDualAlgebra};
 
 impl HyperHyperDual {
     pub fn zero() -> Self
@@ -209,55 +205,4 @@ impl HyperHyperDual {
     {
         self.re >= other.re
     }
-}
-
-// The record number p of a run of flat floats.
-fn record_at(floats: &[f64], p: usize) -> HyperHyperDual
-    requires { ⌜ p * 8 + 7 < length (now floats) ⌝ }
-    ensures { λ r. ⌜ r ≡ recordAt hyperHyperDualLayout (now (floats .entry)) p ⌝ }
-{
-    HyperHyperDual {
-        re: floats[p * 8],
-        eps1: floats[p * 8 + 1],
-        eps2: floats[p * 8 + 2],
-        eps3: floats[p * 8 + 3],
-        eps1eps2: floats[p * 8 + 4],
-        eps1eps3: floats[p * 8 + 5],
-        eps2eps3: floats[p * 8 + 6],
-        eps1eps2eps3: floats[p * 8 + 7],
-    }
-}
-
-// From zero, left to right. A length that is not whole records is refused.
-pub fn sum(floats: &[f64]) -> HyperHyperDualAnswer
-    ensures { λ r. ⌜ outcome r ≡ sumOf hyperHyperDualLayout hyperHyperDualAlgebra (now (floats .entry)) ⌝ }
-{
-    if floats.len() % 8 != 0 {
-        return HyperHyperDualAnswer::Refused(refusals::WRONG_LENGTH);
-    }
-    let count = floats.len() / 8;
-    let mut acc = HyperHyperDual::ZERO;
-    let mut p = 0;
-    while p < count {
-        acc = acc.add(record_at(floats, p));
-        p += 1;
-    }
-    HyperHyperDualAnswer::Value(acc)
-}
-
-// From one, left to right. A length that is not whole records is refused.
-pub fn product(floats: &[f64]) -> HyperHyperDualAnswer
-    ensures { λ r. ⌜ outcome r ≡ productOf hyperHyperDualLayout hyperHyperDualAlgebra (now (floats .entry)) ⌝ }
-{
-    if floats.len() % 8 != 0 {
-        return HyperHyperDualAnswer::Refused(refusals::WRONG_LENGTH);
-    }
-    let count = floats.len() / 8;
-    let mut acc = HyperHyperDual::ONE;
-    let mut p = 0;
-    while p < count {
-        acc = acc.mul(record_at(floats, p));
-        p += 1;
-    }
-    HyperHyperDualAnswer::Value(acc)
 }
