@@ -68,12 +68,12 @@ pub record Few (w n : ℕ) : Type 0 where
 pub few : (w n : ℕ) → n ≤ 32 → w ≤ 8 → Few w n
 few w n h k = record { square = mul-le-mul h h; row = mul-le-mul h k; all = mul-le-mul (mul-le-mul h h) k }
 
--- nor is the place of a record in a walk down a column
-pub walk : (w n k i : ℕ) → n ≤ 32 → w ≤ 8 → k ≤ n → i ≤ n → (k * (n * w) ≤ 8192) × ((i * w ≤ 256) × (n * w ≤ 256))
-walk w n k i h v hk hi =
-    let a : k ≤ 32 = omega arith in
+-- nor is the place of row i or of column i, by the floats of a row
+pub column-places : (w n i : ℕ) (l : List Float) → Square w n l → i < n → (i * (n * w) ≤ 8192) × ((i * w ≤ 256) × (n * w ≤ 256))
+column-places w n i l s h =
+    let z = s .small in
     let b : i ≤ 32 = omega arith in
-    (mul-le-mul a (mul-le-mul h v), (mul-le-mul b v, mul-le-mul h v))
+    (mul-le-mul b (mul-le-mul z (s .narrow)), (mul-le-mul b (s .narrow), mul-le-mul z (s .narrow)))
 
 -- the real part at row r and column c, in the floats
 pub real-cell : (w n : ℕ) (l : List Float) (r c : ℕ) → Square w n l → r < n → c < n

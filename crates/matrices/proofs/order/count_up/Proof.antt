@@ -1,3 +1,4 @@
+-- The loop keeps: every entry passed holds its own place.
 use mathlib.Core.Path.{_≡_, refl, sym, _∙_}
 use Prim.Native.Nat.{_-_}
 use denote.Ref.{now}
@@ -15,14 +16,17 @@ Inv-loop order₀ i₀ order i = (length order ≡ length order₀) × Filled 0 
 abbrev μ-loop : tie.MeasureT-loop
 μ-loop order₀ i₀ order i = length order₀ - i
 
+-- nothing is filled at first
 loop-holds : tie.Need-loop-holds Inv-loop μ-loop
 loop-holds c = (refl, λ k h. absurd (omega arith))
 
+-- a turn fills one entry more and keeps the length
 loop-again : tie.Need-loop-again Inv-loop μ-loop
 loop-again c =
     let at = c .before in
     (simp length-set (at .loop .inv .0), filled-more 0 (λ k. k) (at .loop .order) (at .loop .i) (c .loop-test .taken) (at .loop .inv .1))
 
+-- at the end all is filled, and a list is what stands in it
 returns : tie.Need-returns Inv-loop μ-loop
 returns c =
     let at = c .before in

@@ -1,8 +1,10 @@
+-- The body is the definition's own moves in its order, so that every need is found.
 use borrow.Author.Needs.{needs}
 use Rattle.matrices.specs.Matrix.{exchange}
 use Rattle.matrices.proofs.order.exchange.Statement.{statement}
 use Rattle.matrices.proofs.order.exchange.Tie as tie
 
+-- three moves are the exchange
 returns : tie.Need-returns
 unfolding exchange
 returns c = search needs

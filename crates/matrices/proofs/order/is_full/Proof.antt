@@ -1,3 +1,4 @@
+-- The code's shifts are the definition's powers of two, since n is small.
 use Prim.Native.Nat.{ℕ, _-_, _/_, _^_}
 use mathlib.Core.Path.{ap}
 use lib.Dec.{eqb}
@@ -8,9 +9,11 @@ use Rattle.matrices.proofs.Walk.{one-shifted}
 use Rattle.matrices.proofs.order.is_full.Statement.{statement}
 use Rattle.matrices.proofs.order.is_full.Tie as tie
 
+-- 1 << n is 2 ^ n, which is not zero
 sub-result : tie.Need-sub-result
 sub-result c = omega (arith, one-shifted (c .args .n) (omega arith), pow-pos (c .args .n))
 
+-- and the shift loses nothing of it, as n is at most 32
 returns : tie.Need-returns
 returns c = ap (λ (k : ℕ). eqb (c .args .word / 2 ^ 32) (k - 1)) (one-shifted (c .args .n) (omega arith))
 

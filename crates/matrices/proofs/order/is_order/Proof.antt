@@ -1,3 +1,4 @@
+-- The loop keeps: what has come is marked, and what is left decides (Walk).
 use Prim.Native.Nat.{ℕ, _≤_, _<_, _-_, _+_}
 use mathlib.Core.Path.{_≡_, sym, subst, _∙_}
 use mathlib.Core.Bool.{Bool, false}
@@ -18,15 +19,19 @@ Inv-loop n o m₀ i₀ m i = Marking n o m i
 abbrev μ-loop : tie.MeasureT-loop
 μ-loop n o m₀ i₀ m i = n - i
 
+-- an entry that is not below n: no order
 stop : (n : ℕ) (o : List ℕ) (m : Marks) (i : ℕ) → Marking n o m i → i < n → length o ≡ n → n ≤ getD o i 0 → false ≡ isOrder n o
 stop n o m i k h long past = sym (mark-stop n o m i k (omega arith) past)
 
+-- an entry below n has its bits
 bit : (n x : ℕ) → n ≤ 32 → (n ≤ x → ⊥) → x < 32
 bit n x small below = omega arith
 
+-- an entry is marked, and the walk is one further
 turn : {n : ℕ} {o : List ℕ} {m : Marks} {i : ℕ} → Marking n o m i → (m′ : Marks) → i < n → n ≤ 32 → length o ≡ n → (n ≤ getD o i 0 → ⊥) → m′ ≡ marksWith m (getD o i 0) → Marking n o m′ (i + 1)
 turn {n} {o} {m} {i} k m′ h small long below em = subst (λ (t : Marks). Marking n o t (i + 1)) (sym em) (mark-turn n o m i k (omega arith) (omega arith) small)
 
+-- all walked: the word decides
 full : (n : ℕ) (o : List ℕ) (m : Marks) (i : ℕ) (t : Bool) → Marking n o m i → n ≤ i → length o ≡ n → t ≡ isFull n (m .word) → t ≡ isOrder n o
 full n o m i t k h long e = e ∙ mark-full n o m i k (omega arith) long
 

@@ -1,3 +1,4 @@
+-- The code's shifts are the definition's powers of two, since x is small.
 use Prim.Native.Nat.{ℕ, _-_, _*_, _/_, _%_, _^_, _<_}
 use mathlib.Core.Path.{_≡_}
 use lib.Bits.{bitXor}
@@ -8,16 +9,19 @@ use Rattle.matrices.specs.Walk.{markOf}
 use Rattle.matrices.proofs.order.mark.Statement.{statement}
 use Rattle.matrices.proofs.order.mark.Tie as tie
 
--- as the code shifts it
+-- the shift loses nothing, as x is below 32
 shifted : (x : ℕ) → x < 32 → 4294967297 * 2 ^ x % 2 ^ 64 ≡ 4294967297 * 2 ^ x
 shifted x h = shl-exact 33 x 64 (omega arith) (omega arith)
 
+-- so that the code's word is the definition's
 mark-by : (x : ℕ) → x < 32 → 4294967297 * 2 ^ x % 2 ^ 64 - 1 ≡ markOf x
 mark-by x h = let e = shifted x h in let p = pow-pos x in omega arith
 
+-- what is shifted is not zero
 sub-t6 : tie.Need-sub-t6
 sub-t6 c = omega (arith, shifted (c .args .x) (search needs), pow-pos (c .args .x))
 
+-- both fields of the answer are the definition's
 returns : tie.Need-returns
 returns c =
     let m = c .before .args .m in

@@ -1,3 +1,4 @@
+-- Each way out is a case of the definition's two tests.
 use mathlib.Core.Path.{_≡_, refl, sym, ap, _∙_}
 use borrow.Author.Tests.{lt-ltb, le-ltb}
 use mathlib.Core.Bool.{Bool, cond}
@@ -11,12 +12,15 @@ use Rattle.matrices.proofs.refusal.swap_count.Tie as tie
 tested : (c : tie.After-differs) → c .differs .result ≡ differ (isOdd (c .before .before .args .swaps)) (c .before .before .args .odd)
 tested c = c .differs .ensures ∙ ap (λ (t : Bool). differ t (c .before .before .args .odd)) (odd-mod (c .before .before .args .swaps))
 
+-- above the largest
 returns : tie.Need-returns
 returns c = rw (lt-ltb 32 _ (c .if1 .taken)) refl
 
+-- of the other parity
 returns-2 : tie.Need-returns-2
 returns-2 c = rw (le-ltb 32 _ (c .before .before .if1 .left)) (ap (λ (t : Bool). cond t 8 0) (sym (c .if2 .taken) ∙ tested (c .before)))
 
+-- of the same
 returns-3 : tie.Need-returns-3
 returns-3 c = rw (le-ltb 32 _ (c .before .before .if1 .left)) (ap (λ (t : Bool). cond t 8 0) (sym (c .if2 .left) ∙ tested (c .before)))
 

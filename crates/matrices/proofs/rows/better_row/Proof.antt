@@ -1,3 +1,4 @@
+-- Each way out is a case of the definition's test.
 use mathlib.Core.Path.{_≡_, refl}
 use Prim.Native.Nat.{ℕ}
 use mathlib.Core.Bool.{Bool, cond}
@@ -14,9 +15,11 @@ better-by : (x : Float) (k : ℕ) (b : Pivot) (magnitude : Float) (t : Bool) →
 unfolding better
 better-by x k b magnitude t e h = rw (← e, h) refl
 
+-- taken: strictly greater
 returns : tie.Need-returns
 returns c = better-by _ _ _ _ _ (c .before .before .abs .ensures) (c .if1 .taken)
 
+-- left: the earlier one stays
 returns-2 : tie.Need-returns-2
 returns-2 c = better-by _ _ _ _ _ (c .before .before .abs .ensures) (c .if1 .left)
 

@@ -1,3 +1,4 @@
+-- The loop keeps: what is left to run gives the whole exchange.
 use mathlib.Core.Path.{_≡_, refl}
 use Prim.Native.Nat.{ℕ, _≤_, _-_, _+_, _*_, _<_}
 use lib.ListN.{length, getD, set, length-set}
@@ -23,13 +24,16 @@ Inv-loop k a₀ p q x y c₀ a c = (c ≤ k) × ((length a ≡ length a₀) × (
 abbrev μ-loop : tie.MeasureT-loop
 μ-loop k a₀ p q x y c₀ a c = k - c
 
+-- at first all is left to run
 loop-holds : tie.Need-loop-holds Inv-loop μ-loop
 unfolding exchangeRows
 loop-holds c = (omega arith, (refl, refl))
 
+-- a store keeps the length
 slice-write-a-2 : tie.Need-slice-write-a-2 Inv-loop μ-loop
 slice-write-a-2 c = simp length-set (omega arith)
 
+-- a turn is one exchange
 loop-again : tie.Need-loop-again Inv-loop μ-loop
 loop-again c =
     let at = c .before .before .before in
@@ -37,6 +41,7 @@ loop-again c =
     let h = c .before .before .loop-test .taken in
     (omega arith, (simp length-set (at .loop .inv .1 .0), upto-turn (at .loop .c) (s .k) _ (at .loop .a) _ h (exchanged (at .loop .a) (s .p * s .k + at .loop .c) (s .q * s .k + at .loop .c) (omega arith) (omega arith)) (at .loop .inv .1 .1)))
 
+-- at the end nothing is left
 returns : tie.Need-returns Inv-loop μ-loop
 returns c = upto-end (c .before .loop .c) _ _ _ (c .loop-test .left) (c .before .loop .inv .1 .1)
 

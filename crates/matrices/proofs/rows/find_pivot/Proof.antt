@@ -1,3 +1,4 @@
+-- The loop keeps: the rows left to look at, from the best so far, give the pivot.
 use mathlib.Core.Path.{_≡_, refl, sym, ap, _∙_}
 use Prim.Native.Nat.{ℕ, _≤_, _-_, _+_, _*_, _<_}
 use denote.Ref.{now}
@@ -12,7 +13,7 @@ use Rattle.algebra.specs.Loop.{upto}
 use Rattle.algebra.proofs.Loop.{upto-turn, upto-end}
 use Rattle.matrices.specs.Matrix.{cell}
 use Rattle.matrices.specs.Lu.{better, pivotOf}
-use Rattle.matrices.proofs.Places.{walk, real-cell}
+use Rattle.matrices.proofs.Places.{column-places, real-cell}
 use Rattle.algebra.proofs.Inside.{getD-inside}
 use Rattle.matrices.proofs.rows.find_pivot.Statement.{statement}
 use Rattle.matrices.proofs.rows.find_pivot.Tie as tie
@@ -23,22 +24,12 @@ Inv-loop w n a i row at₀ b₀ k₀ at b k = (i ≤ k) × ((k ≤ n) × ((at �
 abbrev μ-loop : tie.MeasureT-loop
 μ-loop w n a i row at₀ b₀ k₀ at b k = n - k
 
-mul-row : tie.Need-mul-row Inv-loop μ-loop
-mul-row c = let s = c .before in let f = walk (s .args .w) (s .args .n) (s .args .i) (s .args .i) (s .pre .0 .small) (s .pre .0 .narrow) (omega arith) (omega arith) in omega arith
-
-mul-at : tie.Need-mul-at Inv-loop μ-loop
-mul-at c = let s = c .before in let f = walk (s .args .w) (s .args .n) (s .args .i) (s .args .i) (s .pre .0 .small) (s .pre .0 .narrow) (omega arith) (omega arith) in omega arith
-
-mul-at-2 : tie.Need-mul-at-2 Inv-loop μ-loop
-mul-at-2 c = let s = c .before in let f = walk (s .args .w) (s .args .n) (s .args .i) (s .args .i) (s .pre .0 .small) (s .pre .0 .narrow) (omega arith) (omega arith) in omega arith
-
-add-at : tie.Need-add-at Inv-loop μ-loop
-add-at c = let s = c .before in let f = walk (s .args .w) (s .args .n) (s .args .i) (s .args .i) (s .pre .0 .small) (s .pre .0 .narrow) (omega arith) (omega arith) in omega arith
-
+-- at first all is left to run
 loop-holds : tie.Need-loop-holds Inv-loop μ-loop
 unfolding pivotOf
 loop-holds c = (omega arith, (omega arith, (refl, refl)))
 
+-- the row looked at has its place in the floats
 mul-better-row : tie.Need-mul-better-row Inv-loop μ-loop
 mul-better-row c =
     let at = c .before in
@@ -53,11 +44,14 @@ shared-slice-read-better-row c =
     let r = real-cell (s .args .w) (s .args .n) (now (s .args .a)) (at .loop .k) (s .args .i) (s .pre .0) (c .before .loop-test .taken) (s .pre .1) in
     omega arith
 
+-- the place a row further is not large
 add-at-2 : tie.Need-add-at-2 Inv-loop μ-loop
 add-at-2 c =
     let at = c .before .before .before in
-    let s = at .before .before in let f = walk (s .args .w) (s .args .n) (at .loop .k) (s .args .i) (s .pre .0 .small) (s .pre .0 .narrow) (omega arith) (omega arith) in omega arith
+    let s = at .before .before in
+    omega (arith, column-places _ _ _ _ (s .pre .0) (s .pre .1), column-places _ _ _ _ (s .pre .0) (c .before .before .loop-test .taken))
 
+-- a turn looks at the real part of the next row
 loop-again : tie.Need-loop-again Inv-loop μ-loop
 loop-again c =
     let at = c .before .before .before in
@@ -68,6 +62,7 @@ loop-again c =
     let e = getD-inside (now (s .args .a)) (at .loop .at) nan zero j ∙ ap (λ (q : ℕ). getD (now (s .args .a)) q zero) (at .loop .inv .1 .1 .0) ∙ sym (r .1) in
     (omega arith, (omega arith, (omega arith, upto-turn (at .loop .k) (s .args .n) _ (at .loop .b) _ h (c .better-row .ensures ∙ ap (λ (x : Float). better x (at .loop .k) (at .loop .b)) e) (at .loop .inv .1 .1 .1))))
 
+-- at the end none is left
 returns : tie.Need-returns Inv-loop μ-loop
 returns c = upto-end (c .before .loop .k) _ _ _ (c .loop-test .left) (c .before .loop .inv .1 .1 .1)
 
@@ -75,10 +70,11 @@ pub find-pivot-spec : {M : Type 1} → statement M
 find-pivot-spec =
     tie.close
     (tie.spec Inv-loop μ-loop
-    mul-row
-    mul-at
-    mul-at-2
-    add-at
+    -- places in a matrix are not large
+    (λ c. omega (arith, column-places _ _ _ _ (c .before .pre .0) (c .before .pre .1)))
+    (λ c. omega (arith, column-places _ _ _ _ (c .before .pre .0) (c .before .pre .1)))
+    (λ c. omega (arith, column-places _ _ _ _ (c .before .pre .0) (c .before .pre .1)))
+    (λ c. omega (arith, column-places _ _ _ _ (c .before .pre .0) (c .before .pre .1)))
     loop-holds
     mul-better-row
     shared-slice-read-better-row
