@@ -16,7 +16,7 @@ use Rattle.dual.specs.declared.Dual.{Dual}
 use Rattle.dual.specs.Rules.{dual, dualDiv, dualAlgebra, dualLayout}
 use Rattle.dual3.specs.declared.Dual3.{Dual3}
 use Rattle.dual3.specs.Rules.{dual3, dual3Algebra}
-use Rattle.matrices.specs.Lu.{numbers}
+use Rattle.matrices.specs.Lu.{countUp}
 use Rattle.matrices.specs.Entries.{LuLeft, SolveLeft, luLeft, solveLeft, inverseLeft, determinantLeft}
 use Rattle.jacobi.specs.Entry.{JacobiLeft, jacobiLeft}
 
@@ -90,13 +90,13 @@ jacobiWords-of a = jacobiWords (jacobiLeft dualAlgebra dualLayout 2 (floats a) 2
 
 -- the other entries of n by n zeros, with the order 0, 1, .., n - 1, no swaps and limit 200, into buffers of the lengths wanted that hold other things
 abbrev pub solveOfZeros : ℕ → SolveLeft
-solveOfZeros n = solveLeft dualAlgebra dualLayout n (replicate (n * n * 2) float.zero) (numbers n) (replicate (n * 2) float.zero) (replicate (n * 2) fortyNine)
+solveOfZeros n = solveLeft dualAlgebra dualLayout n (replicate (n * n * 2) float.zero) (countUp n) (replicate (n * 2) float.zero) (replicate (n * 2) fortyNine)
 
 abbrev pub inverseOfZeros : ℕ → SolveLeft
-inverseOfZeros n = inverseLeft dualAlgebra dualLayout n (replicate (n * n * 2) float.zero) (numbers n) (replicate (n * n * 2) fortyNine)
+inverseOfZeros n = inverseLeft dualAlgebra dualLayout n (replicate (n * n * 2) float.zero) (countUp n) (replicate (n * n * 2) fortyNine)
 
 abbrev pub determinantOfZeros : ℕ → Outcome Dual
-determinantOfZeros n = determinantLeft dualAlgebra dualLayout n (replicate (n * n * 2) float.zero) (numbers n) 0
+determinantOfZeros n = determinantLeft dualAlgebra dualLayout n (replicate (n * n * 2) float.zero) (countUp n) 0
 
 abbrev pub jacobiOfZeros : ℕ → JacobiLeft
 jacobiOfZeros n = jacobiLeft dualAlgebra dualLayout n (replicate (n * n * 2) float.zero) 200 (replicate (n * 2) fortyNine) (replicate (n * n * 2) fortyNine)
