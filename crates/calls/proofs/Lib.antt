@@ -1,4 +1,5 @@
 -- Laws that the proofs cite; those of the crates of the records are public.
-mod Missing
+pub mod Numbered
+pub mod Arms
 pub mod Fitting
-pub mod Operated
+pub mod Entries

@@ -14,8 +14,8 @@ use Rattle.algebra.specs.Algebra.{Algebra, addFloat, subFloat, magnitude}
 use Rattle.algebra.specs.Flat.{Layout, recordAt, sumOf, productOf}
 use Rattle.algebra.specs.Outcome.{Outcome, value, refused, mapOutcome}
 use Rattle.derivatives.specs.Apply.{applyOf, sinOf, cosOf, atan2Of, mulAddOf, powdOf, absSubOf, signumOf}
-use Rattle.calls.specs.declared.Test.{Test}
-use Rattle.calls.specs.declared.Test.the-variants.{Eq, Lt, Le, Gt, Ge, IsNegative, IsPositive, IsZero, IsOne}
+use Rattle.calls.specs.declared.Predicate.{Predicate}
+use Rattle.calls.specs.declared.Predicate.the-variants.{Eq, Lt, Le, Gt, Ge, IsNegative, IsPositive, IsZero, IsOne}
 use Rattle.calls.specs.declared.Unary.{Unary}
 use Rattle.calls.specs.declared.Unary.the-variants as unary
 use Rattle.calls.specs.declared.Binary.{Binary}
@@ -26,8 +26,8 @@ use Rattle.calls.specs.declared.Operation.{Operation}
 use Rattle.calls.specs.declared.Operation.the-variants as operation
 use Rattle.calls.specs.declared.Call.{Call}
 use Rattle.calls.specs.declared.Call.the-variants.{Unknown, Truth, SinCos, Record}
-use Rattle.calls.specs.declared.Row.{Row}
-use Rattle.calls.specs.Table.{rowOf}
+use Rattle.calls.specs.declared.Line.{Line}
+use Rattle.calls.specs.Table.{lineOf}
 use Rattle.calls.specs.Words.{floatsOf, wordsOf}
 
 -- A record type by what calls use of it: its operations, its layout in flat floats, and `derivative`, `derivative1`, .. by function number, refused 2 where the
@@ -37,8 +37,8 @@ pub record Kind (R : Type 0) : Type 0 where
   pub layout : Layout R
   pub derivative : ℕ → R → Outcome R
 
--- a test of the real parts a and b
-abbrev pub holds : Test → Float → Float → Bool
+-- a predicate of the real parts a and b
+abbrev pub holds : Predicate → Float → Float → Bool
 holds Eq a b = eq a b
 holds Lt a b = lt a b
 holds Le a b = le a b
@@ -49,7 +49,7 @@ holds IsPositive a b = not (signOf a)
 holds IsZero a b = eq a float.zero
 holds IsOne a b = eq a float.one
 
--- 1.0 where a test holds, else 0.0
+-- 1.0 where a predicate holds, else 0.0
 abbrev pub truth : Bool → Float
 truth holds = cond holds float.one float.zero
 
@@ -64,26 +64,26 @@ binaryNumber binary.AbsSub = 0x17
 -- how many floats a call gives, at `width` floats a record
 abbrev pub sizeOf : ℕ → Call → ℕ
 sizeOf width Unknown = 0
-sizeOf width (Truth test) = 1
+sizeOf width (Truth predicate) = 1
 sizeOf width (SinCos sin cos) = width + width
 sizeOf width (Record op) = width
 
 -- there are as many floats of out as the call gives
 abbrev pub Sized : ℕ → ℕ → Call → Type 0
 Sized width out Unknown = Unit
-Sized width out (Truth test) = out ≡ 1
+Sized width out (Truth predicate) = out ≡ 1
 Sized width out (SinCos sin cos) = out ≡ width + width
 Sized width out (Record op) = out ≡ width
 
 -- the call of a line where there are so many floats of records, plain floats and floats of out as it takes, else Unknown
-unfoldable pub fitting : ℕ → Row → ℕ → ℕ → ℕ → Call
+unfoldable pub fitting : ℕ → Line → ℕ → ℕ → ℕ → Call
 fitting width r records floats out =
     cond (eqb records (r .records * width)) (cond (eqb floats (r .floats)) (cond (eqb out (sizeOf width (r .call))) (r .call) Unknown) Unknown) Unknown
 
 -- the call of a function number; the floats are lent as words
 unfoldable pub callOf : ℕ → ℕ → ℤ → ℕ → List ℕ → ℕ → Call
 callOf width function exponent records floats out =
-    fitting width (rowOf function (getD (floatsOf floats) 0 float.zero) (getD (floatsOf floats) 1 float.zero) exponent) records (length floats) out
+    fitting width (lineOf function (getD (floatsOf floats) 0 float.zero) (getD (floatsOf floats) 1 float.zero) exponent) records (length floats) out
 
 -- what a call leaves: the number 0 and what it gives, or the number that it is refused by and out as it was
 abbrev pub leaves : {T : Type 0} → Outcome (List T) → List T → ℕ × List T
@@ -124,7 +124,7 @@ module _ {R : Type 0} (K : Kind R) where
   -- what a call gives, as floats
   abbrev pub answerOf : Call → R → R → R → Outcome (List Float)
   answerOf Unknown x y z = refused refusal.wrongLength
-  answerOf (Truth test) x y z = value (truth (holds test (K .algebra .re x) (K .algebra .re y)) ∷ [])
+  answerOf (Truth predicate) x y z = value (truth (holds predicate (K .algebra .re x) (K .algebra .re y)) ∷ [])
   answerOf (SinCos sin cos) x y z = value (K .layout .parts (sinOf (K .algebra) x sin cos) ++ K .layout .parts (cosOf (K .algebra) x sin cos))
   answerOf (Record op) x y z = mapOutcome (K .layout .parts) (operateOf op x y z)
 

@@ -4,8 +4,8 @@ use calls::ByFloat;
 use calls::Call;
 use calls::Operation;
 use calls::Unary;
+use calls::predicates;
 use calls::table;
-use calls::tests;
 use calls::words;
 use dual2::Dual2;
 use dual2::Dual2Answer;
@@ -131,8 +131,8 @@ fn run(call: Call, x: Dual2, y: Dual2, z: Dual2, out: &mut [u64]) -> u32
 {
     match call {
         Call::Unknown => refusals::WRONG_LENGTH,
-        Call::Truth(test) => {
-            words::put_one(tests::truth(test, x.re, y.re), out);
+        Call::Truth(predicate) => {
+            words::put_one(predicates::truth(predicate, x.re, y.re), out);
             0
         }
         Call::SinCos { sin, cos } => {

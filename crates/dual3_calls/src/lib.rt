@@ -4,8 +4,8 @@ use calls::ByFloat;
 use calls::Call;
 use calls::Operation;
 use calls::Unary;
+use calls::predicates;
 use calls::table;
-use calls::tests;
 use calls::words;
 use dual3::Dual3;
 use dual3::Dual3Answer;
@@ -132,8 +132,8 @@ fn run(call: Call, x: Dual3, y: Dual3, z: Dual3, out: &mut [u64]) -> u32
 {
     match call {
         Call::Unknown => refusals::WRONG_LENGTH,
-        Call::Truth(test) => {
-            words::put_one(tests::truth(test, x.re, y.re), out);
+        Call::Truth(predicate) => {
+            words::put_one(predicates::truth(predicate, x.re, y.re), out);
             0
         }
         Call::SinCos { sin, cos } => {

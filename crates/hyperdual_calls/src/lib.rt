@@ -4,8 +4,8 @@ use calls::ByFloat;
 use calls::Call;
 use calls::Operation;
 use calls::Unary;
+use calls::predicates;
 use calls::table;
-use calls::tests;
 use calls::words;
 use hyperdual::HyperDual;
 use hyperdual::HyperDualAnswer;
@@ -142,8 +142,8 @@ fn run(call: Call, x: HyperDual, y: HyperDual, z: HyperDual, out: &mut [u64]) ->
 {
     match call {
         Call::Unknown => refusals::WRONG_LENGTH,
-        Call::Truth(test) => {
-            words::put_one(tests::truth(test, x.re, y.re), out);
+        Call::Truth(predicate) => {
+            words::put_one(predicates::truth(predicate, x.re, y.re), out);
             0
         }
         Call::SinCos { sin, cos } => {

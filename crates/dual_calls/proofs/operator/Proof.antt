@@ -1,27 +1,15 @@
-use mathlib.Core.Path.{sym, _∙_}
-use Rattle.calls.proofs.Operated.{operated, operated-records, operated-out}
-use Rattle.dual_calls.specs.Kind.{dualKind}
+-- By the lengths alone: the line of an operation on two records is known (Entries).
 use borrow.Author.Needs.{needs}
+use Rattle.dual_calls.specs.Kind.{dualKind}
+use Rattle.calls.proofs.Entries.{operated, operated-records, operated-out}
 use Rattle.dual_calls.proofs.operator.Statement.{statement}
 use Rattle.dual_calls.proofs.operator.Tie as tie
-
-returns : tie.Need-returns
-returns c = sym (operated-records dualKind _ _ _ (c .if1 .taken))
-
-returns-2 : tie.Need-returns-2
-returns-2 c = sym (operated-out dualKind _ _ _ (c .before .if1 .left) (c .if2 .taken))
-
-returns-3 : tie.Need-returns-3
-returns-3 c =
-    (rw (c .before .before .before .before .binary .ensures, c .before .before .before .before .before .before .record-at .ensures, c .before .before .before .before .before .record-at2 .ensures) at (c .before .before .leave .ensures))
-    ∙ sym (operated dualKind _ _ _ (c .before .before .before .before .before .before .before .before .if1 .left) (c .before .before .before .before .before .before .before .if2 .left))
 
 pub operator-spec : {M : Type 1} → statement M
 operator-spec =
     tie.close
     (tie.spec
     (λ c. search needs)
-    returns
-    returns-2
+    (λ c. search (needs, operated-records dualKind)) (λ c. search (needs, operated-out dualKind))
     (λ c κs. search needs) (λ c κs. search needs) (λ c κs. search needs) (λ c κs. search needs) (λ c. search needs)
-    returns-3)
+    (λ c. search (needs, operated dualKind)))

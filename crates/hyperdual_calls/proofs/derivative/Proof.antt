@@ -1,20 +1,16 @@
-use borrow.Author.Tests.{ne-eqb}
+-- Each arm is the line beside its number, the last arm no line (Numbered).
 use borrow.Author.Needs.{needs}
+use Rattle.refusals.specs.Number as refusal
+use Rattle.algebra.specs.Outcome.{refused}
+use Rattle.calls.proofs.Numbered.{numbered-of, none-of}
+use Rattle.hyperdual_calls.specs.Kind.{hyperDualDerivatives, hyperDualDerivativeTable}
 use Rattle.hyperdual_calls.proofs.derivative.Statement.{statement}
 use Rattle.hyperdual_calls.proofs.derivative.Tie as tie
 
-returns : tie.Need-returns
-returns c = rw (c .before .match .keys1) (cc)
-
-returns-2 : tie.Need-returns-2
-returns-2 c = rw (c .before .match .keys2) (cc)
-
-returns-3 : tie.Need-returns-3
-returns-3 c = rw (ne-eqb _ _ (c .match .rest .0 .1), ne-eqb _ _ (c .match .rest .1))
-
 pub derivative-spec : {M : Type 1} → statement M
-derivative-spec = tie.close (tie.spec
+derivative-spec =
+    tie.close
+    (tie.spec
     (λ c κs. search needs) (λ c κs. search needs)
-    returns
-    returns-2
-    returns-3)
+    (λ c. search (needs, numbered-of hyperDualDerivatives)) (λ c. search (needs, numbered-of hyperDualDerivatives))
+    (λ c. search (needs, none-of hyperDualDerivativeTable (refused refusal.wrongLength))))

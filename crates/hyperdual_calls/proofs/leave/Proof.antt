@@ -1,17 +1,17 @@
+-- A value leaves its words, a refusal its number: laws over any kind of record (Entries).
 use borrow.Author.Needs.{needs}
+use mathlib.Core.Path.{refl}
+use Rattle.hyperdual.specs.Rules.{outcome}
+use Rattle.hyperdual.specs.declared.HyperDualAnswer.the-variants.{Value, Refused}
+use Rattle.hyperdual_calls.specs.Kind.{hyperDualKind}
+use Rattle.calls.proofs.Entries.{leave-value, leave-refused}
 use Rattle.hyperdual_calls.proofs.leave.Statement.{statement}
 use Rattle.hyperdual_calls.proofs.leave.Tie as tie
-
-returns : tie.Need-returns
-returns c = rw (c .before .before .before .before .before .before .answer .given .1, c .before .before .put .ensures)
-
-returns-2 : tie.Need-returns-2
-returns-2 c = rw (c .before .answer2 .given .1)
 
 pub leave-spec : {M : Type 1} → statement M
 leave-spec =
     tie.close
     (tie.spec
     (λ c. search needs) (λ c. search needs) (λ c κs. search needs) (λ c. search needs) (λ c. search needs)
-    returns
-    returns-2)
+    (λ c. search (needs, leave-value hyperDualKind outcome Value (λ x. refl)))
+    (λ c. search (needs, leave-refused hyperDualKind outcome Refused (λ n. refl))))

@@ -1,13 +1,13 @@
-use Rattle.calls.specs.Called.{multipliedOf}
+-- What joins the run is left in floats (Entries).
 use borrow.Author.Needs.{needs}
+use Rattle.hyperdual_calls.specs.Kind.{hyperDualKind}
+use Rattle.calls.proofs.Entries.{multiplied}
 use Rattle.hyperdual_calls.proofs.product.Statement.{statement}
 use Rattle.hyperdual_calls.proofs.product.Tie as tie
 
-returns : tie.Need-returns
-unfolding multipliedOf
-returns c = rw (← c .before .before .before .before .product .ensures) (c .before .before .leave-floats .ensures)
-
 pub product-spec : {M : Type 1} → statement M
-product-spec = tie.close (tie.spec
+product-spec =
+    tie.close
+    (tie.spec
     (λ c κs. search needs) (λ c κs. search needs) (λ c. search needs)
-    returns)
+    (λ c. search (needs, multiplied hyperDualKind)))

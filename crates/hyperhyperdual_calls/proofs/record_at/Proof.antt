@@ -1,3 +1,4 @@
+-- Each part is the float of its word; the first stands at no offset.
 use borrow.Author.Needs.{needs}
 use Prim.Native.Nat.{_*_}
 use native.Mathlib.Nat.{add-zero}
