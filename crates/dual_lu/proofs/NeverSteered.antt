@@ -4,7 +4,7 @@
 use Rattle.dual.specs.Rules.{dualAlgebra, outcome}
 use Rattle.matrices.specs.Answers.{luOutcome, luColumn, solveOutcome}
 use Rattle.matrices.proofs.Calls.{LuNeverSteered, lu-never-steered-by, SolveNeverSteered, solve-never-steered-by, InverseNeverSteered, inverse-never-steered-by, DeterminantNeverSteered, determinant-never-steered-by}
-use Rattle.dual_cells.proofs.Cells.{dual-laws}
+use Rattle.dual.proofs.Flat.{dual-laws}
 use Rattle.dual_lu.proofs.lu.Kinds as lu-k
 use Rattle.dual_lu.proofs.lu.Reads as lu-r
 use Rattle.dual_lu.proofs.solve.Kinds as solve-k

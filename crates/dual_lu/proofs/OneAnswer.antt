@@ -4,7 +4,7 @@ use Rattle.dual.specs.Rules.{outcome}
 use Rattle.dual.proofs.OneAnswer.{outcome-one}
 use Rattle.matrices.specs.Answers.{luOutcome, luColumn, solveOutcome}
 use Rattle.matrices.proofs.Calls.{lu-one, solve-one, lu-only-by, solve-only-by, inverse-only-by, determinant-only-by}
-use Rattle.dual_cells.proofs.Cells.{dual-laws}
+use Rattle.dual.proofs.Flat.{dual-laws}
 use Rattle.dual_lu.proofs.lu.Kinds as lu-k
 use Rattle.dual_lu.proofs.lu.Reads as lu-r
 use Rattle.dual_lu.proofs.solve.Kinds as solve-k

@@ -5,7 +5,7 @@ use Rattle.matrices.specs.Answers.{luOutcome, luColumn, solveOutcome}
 use Rattle.matrices.proofs.Calls.{LuPreviousContents, lu-previous-contents-by, LuNothingWritten, lu-nothing-written-by, LuZeros, lu-zeros-by}
 use Rattle.matrices.proofs.Calls.{SolvePreviousContents, solve-previous-contents-by, SolveNothingWritten, solve-nothing-written-by}
 use Rattle.matrices.proofs.Calls.{InversePreviousContents, inverse-previous-contents-by, InverseNothingWritten, inverse-nothing-written-by, DeterminantSameInputs, determinant-same-inputs-by}
-use Rattle.dual_cells.proofs.Cells.{dual-laws}
+use Rattle.dual.proofs.Flat.{dual-laws}
 use Rattle.dual_lu.proofs.lu.Kinds as lu-k
 use Rattle.dual_lu.proofs.lu.Reads as lu-r
 use Rattle.dual_lu.proofs.solve.Kinds as solve-k

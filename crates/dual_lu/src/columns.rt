@@ -6,8 +6,7 @@ use matrices::Marks;
 ghost use mathlib.Core.Path.{_≡_};
 ghost use Prim.Native.Nat.{_+_, _*_, _<_, _≤_};
 ghost use lib.ListN.{length};
-ghost use Rattle.algebra.specs.Flat.{decode};
-ghost use Rattle.dual.specs.Rules.{dualAlgebra, dualLayout, outcome};
+ghost use Rattle.dual.specs.Rules.{dualAlgebra, dualLayout, dualRecords, outcome};
 ghost use Rattle.matrices.specs.Matrix.{Square, RowPlace, cell};
 ghost use Rattle.matrices.specs.Lu.{going, subtractMultiple, subtractRow, reduceRow, reduce, column, countUp, luOf};
 ghost use Rattle.matrices.specs.RunAfter.{runAfter, swapsOf};
@@ -17,19 +16,19 @@ ghost use Rattle.matrices.specs.Entries.{determinantLeft};
 // Record `to` less x times record `from`.
 fn subtract_record(a: &mut [f64], to: usize, from: usize, x: Dual)
     requires { ⌜ (to * 2 + 1 < length (now a)) × (from * 2 + 1 < length (now a)) ⌝ }
-    ensures { λ _. ⌜ decode dualLayout (now (a .exit)) ≡ subtractMultiple dualAlgebra to from x (decode dualLayout (now (a .entry))) ⌝ }
+    ensures { λ _. ⌜ dualRecords (now (a .exit)) ≡ subtractMultiple dualAlgebra to from x (dualRecords (now (a .entry))) ⌝ }
 {
-    let u = dual_cells::read(a, to);
-    let v = dual_cells::read(a, from);
-    dual_cells::write(a, to, u.sub(x.mul(v)));
+    let u = dual::read(a, to);
+    let v = dual::read(a, from);
+    dual::write(a, to, u.sub(x.mul(v)));
 }
 
 // The rest of row j, whose multiplier is x.
 fn subtract_row(n: usize, a: &mut [f64], i: usize, j: usize, x: Dual)
     requires { ⌜ RowPlace 2 n i (now a) ⌝ }
     requires { ⌜ RowPlace 2 n j (now a) ⌝ }
-    requires { ⌜ cell dualAlgebra n (decode dualLayout (now a)) j i ≡ x ⌝ }
-    ensures { λ _. ⌜ decode dualLayout (now (a .exit)) ≡ subtractRow dualAlgebra n i j (decode dualLayout (now (a .entry))) ⌝ }
+    requires { ⌜ cell dualAlgebra n (dualRecords (now a)) j i ≡ x ⌝ }
+    ensures { λ _. ⌜ dualRecords (now (a .exit)) ≡ subtractRow dualAlgebra n i j (dualRecords (now (a .entry))) ⌝ }
 {
     let to = j * n;
     let from = i * n;
@@ -42,11 +41,11 @@ fn subtract_row(n: usize, a: &mut [f64], i: usize, j: usize, x: Dual)
 fn reduce_row(n: usize, a: &mut [f64], i: usize, j: usize)
     requires { ⌜ RowPlace 2 n i (now a) ⌝ }
     requires { ⌜ RowPlace 2 n j (now a) ⌝ }
-    ensures { λ _. ⌜ decode dualLayout (now (a .exit)) ≡ reduceRow dualAlgebra n i j (decode dualLayout (now (a .entry))) ⌝ }
+    ensures { λ _. ⌜ dualRecords (now (a .exit)) ≡ reduceRow dualAlgebra n i j (dualRecords (now (a .entry))) ⌝ }
 {
     let at = j * n + i;
-    let x = dual_cells::read(a, at).div(dual_cells::read(a, i * n + i));
-    dual_cells::write(a, at, x);
+    let x = dual::read(a, at).div(dual::read(a, i * n + i));
+    dual::write(a, at, x);
     subtract_row(n, a, i, j, x);
 }
 
@@ -54,7 +53,7 @@ fn reduce_row(n: usize, a: &mut [f64], i: usize, j: usize)
 fn reduce_rows(n: usize, a: &mut [f64], i: usize)
     requires { ⌜ Square 2 n (now a) ⌝ }
     requires { ⌜ i < n ⌝ }
-    ensures { λ _. ⌜ decode dualLayout (now (a .exit)) ≡ reduce dualAlgebra n i (decode dualLayout (now (a .entry))) ⌝ }
+    ensures { λ _. ⌜ dualRecords (now (a .exit)) ≡ reduce dualAlgebra n i (dualRecords (now (a .entry))) ⌝ }
 {
     for j in i + 1..n {
         reduce_row(n, a, i, j);
@@ -68,7 +67,7 @@ fn run_column(n: usize, a: &mut [f64], order: &mut [usize], i: usize, swaps: usi
     requires { ⌜ i < n ⌝ }
     requires { ⌜ swaps ≤ i ⌝ }
     ensures { λ r. ⌜ swapsOf r ≤ i + 1 ⌝ }
-    ensures { λ r. ⌜ column dualAlgebra n i (going (decode dualLayout (now (a .entry))) (now (order .entry)) swaps) ≡ runAfter r (decode dualLayout (now (a .exit))) (now (order .exit)) ⌝ }
+    ensures { λ r. ⌜ column dualAlgebra n i (going (dualRecords (now (a .entry))) (now (order .entry)) swaps) ≡ runAfter r (dualRecords (now (a .exit))) (now (order .exit)) ⌝ }
 {
     let s = matrices::rows::bring_pivot(2, n, a, order, i, swaps);
     let AfterColumn::Going { swaps: t } = s else {
@@ -82,7 +81,7 @@ fn run_column(n: usize, a: &mut [f64], order: &mut [usize], i: usize, swaps: usi
 pub(crate) fn run_columns(n: usize, a: &mut [f64], order: &mut [usize]) -> AfterColumn
     requires { ⌜ Square 2 n (now a) ⌝ }
     requires { ⌜ now order ≡ countUp n ⌝ }
-    ensures { λ r. ⌜ luOf dualAlgebra n (decode dualLayout (now (a .entry))) ≡ runAfter r (decode dualLayout (now (a .exit))) (now (order .exit)) ⌝ }
+    ensures { λ r. ⌜ luOf dualAlgebra n (dualRecords (now (a .entry))) ≡ runAfter r (dualRecords (now (a .exit))) (now (order .exit)) ⌝ }
 {
     let mut swaps = 0;
     for i in 0..n {
@@ -122,7 +121,7 @@ pub(crate) fn determinant_of(n: usize, a: &[f64], order: &[usize], swaps: usize)
             return DualAnswer::Refused(refusals::NOT_AN_ORDER);
         }
         m = matrices::order::mark(m, k);
-        x = x.mul(dual_cells::read(a, i * n + i));
+        x = x.mul(dual::read(a, i * n + i));
     }
     let number = matrices::refusal::walked(n, m, swaps);
     if number != 0 {

@@ -9,8 +9,7 @@ pub use matrices::LuAnswer;
 pub use matrices::SolveAnswer;
 ghost use mathlib.Core.Path.{_≡_};
 ghost use lib.ListN.{length};
-ghost use Rattle.algebra.specs.Flat.{decode};
-ghost use Rattle.dual.specs.Rules.{dualAlgebra, dualLayout, outcome};
+ghost use Rattle.dual.specs.Rules.{dualAlgebra, dualLayout, dualRecords, outcome};
 ghost use Rattle.matrices.specs.Matrix.{Square};
 ghost use Rattle.matrices.specs.Lu.{luOf};
 ghost use Rattle.matrices.specs.Entries.{luAnswered, solveAnswered, luFinish, luLeft, solveLeft, inverseLeft, determinantLeft};
@@ -21,7 +20,7 @@ fn factor(n: usize, a: &[f64], factors: &mut [f64], order: &mut [usize]) -> LuAn
     requires { ⌜ Square 2 n (now a) ⌝ }
     requires { ⌜ Square 2 n (now factors) ⌝ }
     requires { ⌜ length (now order) ≡ n ⌝ }
-    ensures { λ r. ⌜ luAnswered (luOutcome r) (luColumn r) (now (factors .exit)) (now (order .exit)) ≡ luFinish dualAlgebra dualLayout n (luOf dualAlgebra n (decode dualLayout (now (a .entry)))) ⌝ }
+    ensures { λ r. ⌜ luAnswered (luOutcome r) (luColumn r) (now (factors .exit)) (now (order .exit)) ≡ luFinish dualAlgebra dualLayout n (luOf dualAlgebra n (dualRecords (now (a .entry)))) ⌝ }
 {
     floats::copy(a, factors);
     matrices::order::count_up(order);

@@ -4,8 +4,7 @@ use dual::Dual;
 ghost use mathlib.Core.Path.{_≡_};
 ghost use Prim.Native.Nat.{_+_, _*_, _<_, _≤_};
 ghost use lib.ListN.{length};
-ghost use Rattle.algebra.specs.Flat.{decode};
-ghost use Rattle.dual.specs.Rules.{dualAlgebra, dualLayout};
+ghost use Rattle.dual.specs.Rules.{dualAlgebra, dualRecords};
 ghost use Rattle.matrices.specs.Matrix.{Square, RowPlace};
 ghost use Rattle.matrices.specs.Solve.{Strided, lessProduct, lessRow, forwardRowFrom, forwardFrom, backRow, back, substituteFrom, solveStarts, solveOf};
 ghost use Rattle.matrices.specs.Inverse.{units, inverseOf};
@@ -14,9 +13,9 @@ ghost use Rattle.matrices.specs.Order.{Order};
 // v less record p of a times record q of x.
 fn less_product(v: Dual, a: &[f64], p: usize, x: &[f64], q: usize) -> Dual
     requires { ⌜ (p * 2 + 1 < length (now a)) × (q * 2 + 1 < length (now x)) ⌝ }
-    ensures { λ r. ⌜ r ≡ lessProduct dualAlgebra v (decode dualLayout (now (a .entry))) p (decode dualLayout (now (x .entry))) q ⌝ }
+    ensures { λ r. ⌜ r ≡ lessProduct dualAlgebra v (dualRecords (now (a .entry))) p (dualRecords (now (x .entry))) q ⌝ }
 {
-    v.sub(dual_cells::read(a, p).mul(dual_cells::read(x, q)))
+    v.sub(dual::read(a, p).mul(dual::read(x, q)))
 }
 
 // v less the products of row i with x, columns lo..hi.
@@ -34,7 +33,7 @@ fn less_row(
     requires { ⌜ RowPlace 2 n i (now a) ⌝ }
     requires { ⌜ Strided 2 n stride base (now x) ⌝ }
     requires { ⌜ hi ≤ n ⌝ }
-    ensures { λ r. ⌜ r ≡ lessRow dualAlgebra n (decode dualLayout (now (a .entry))) stride base i (decode dualLayout (now (x .entry))) lo hi v ⌝ }
+    ensures { λ r. ⌜ r ≡ lessRow dualAlgebra n (dualRecords (now (a .entry))) stride base i (dualRecords (now (x .entry))) lo hi v ⌝ }
 {
     let row = i * n;
     let mut r = v;
@@ -49,19 +48,19 @@ fn forward_row(n: usize, a: &[f64], x: &mut [f64], stride: usize, base: usize, i
     requires { ⌜ RowPlace 2 n i (now a) ⌝ }
     requires { ⌜ Strided 2 n stride base (now x) ⌝ }
     requires { ⌜ (i * stride + base) * 2 + 2 ≤ length (now x) ⌝ }
-    ensures { λ _. ⌜ decode dualLayout (now (x .exit)) ≡ forwardRowFrom dualAlgebra n (decode dualLayout (now (a .entry))) stride base i (decode dualLayout (now (x .entry))) ⌝ }
+    ensures { λ _. ⌜ dualRecords (now (x .exit)) ≡ forwardRowFrom dualAlgebra n (dualRecords (now (a .entry))) stride base i (dualRecords (now (x .entry))) ⌝ }
 {
     let at = i * stride + base;
-    let v = dual_cells::read(x, at);
+    let v = dual::read(x, at);
     let r = less_row(n, a, x, stride, base, i, 0, i, v);
-    dual_cells::write(x, at, r);
+    dual::write(x, at, r);
 }
 
 // From the first element down.
 fn run_forward(n: usize, a: &[f64], x: &mut [f64], stride: usize, base: usize)
     requires { ⌜ Square 2 n (now a) ⌝ }
     requires { ⌜ Strided 2 n stride base (now x) ⌝ }
-    ensures { λ _. ⌜ decode dualLayout (now (x .exit)) ≡ forwardFrom dualAlgebra n (decode dualLayout (now (a .entry))) stride base (decode dualLayout (now (x .entry))) ⌝ }
+    ensures { λ _. ⌜ dualRecords (now (x .exit)) ≡ forwardFrom dualAlgebra n (dualRecords (now (a .entry))) stride base (dualRecords (now (x .entry))) ⌝ }
 {
     for i in 0..n {
         forward_row(n, a, x, stride, base, i);
@@ -73,18 +72,18 @@ fn back_row(n: usize, a: &[f64], x: &mut [f64], stride: usize, base: usize, i: u
     requires { ⌜ RowPlace 2 n i (now a) ⌝ }
     requires { ⌜ Strided 2 n stride base (now x) ⌝ }
     requires { ⌜ (i * stride + base) * 2 + 2 ≤ length (now x) ⌝ }
-    ensures { λ _. ⌜ decode dualLayout (now (x .exit)) ≡ backRow dualAlgebra n (decode dualLayout (now (a .entry))) stride base i (decode dualLayout (now (x .entry))) ⌝ }
+    ensures { λ _. ⌜ dualRecords (now (x .exit)) ≡ backRow dualAlgebra n (dualRecords (now (a .entry))) stride base i (dualRecords (now (x .entry))) ⌝ }
 {
     let at = i * stride + base;
-    let r = less_row(n, a, x, stride, base, i, i + 1, n, dual_cells::read(x, at));
-    dual_cells::write(x, at, r.div(dual_cells::read(a, i * n + i)));
+    let r = less_row(n, a, x, stride, base, i, i + 1, n, dual::read(x, at));
+    dual::write(x, at, r.div(dual::read(a, i * n + i)));
 }
 
 // From the last element up.
 fn run_back(n: usize, a: &[f64], x: &mut [f64], stride: usize, base: usize)
     requires { ⌜ Square 2 n (now a) ⌝ }
     requires { ⌜ Strided 2 n stride base (now x) ⌝ }
-    ensures { λ _. ⌜ decode dualLayout (now (x .exit)) ≡ back dualAlgebra n (decode dualLayout (now (a .entry))) stride base (decode dualLayout (now (x .entry))) ⌝ }
+    ensures { λ _. ⌜ dualRecords (now (x .exit)) ≡ back dualAlgebra n (dualRecords (now (a .entry))) stride base (dualRecords (now (x .entry))) ⌝ }
 {
     for t in 0..n {
         back_row(n, a, x, stride, base, n - 1 - t);
@@ -95,7 +94,7 @@ fn run_back(n: usize, a: &[f64], x: &mut [f64], stride: usize, base: usize)
 fn run(n: usize, a: &[f64], x: &mut [f64], stride: usize, base: usize)
     requires { ⌜ Square 2 n (now a) ⌝ }
     requires { ⌜ Strided 2 n stride base (now x) ⌝ }
-    ensures { λ _. ⌜ decode dualLayout (now (x .exit)) ≡ substituteFrom dualAlgebra n (decode dualLayout (now (a .entry))) stride base (decode dualLayout (now (x .entry))) ⌝ }
+    ensures { λ _. ⌜ dualRecords (now (x .exit)) ≡ substituteFrom dualAlgebra n (dualRecords (now (a .entry))) stride base (dualRecords (now (x .entry))) ⌝ }
 {
     run_forward(n, a, x, stride, base);
     run_back(n, a, x, stride, base);
@@ -106,11 +105,11 @@ fn solve_starts(n: usize, order: &[usize], b: &[f64], x: &mut [f64])
     requires { ⌜ Order n (now order) ⌝ }
     requires { ⌜ length (now b) ≡ n * 2 ⌝ }
     requires { ⌜ length (now x) ≡ n * 2 ⌝ }
-    ensures { λ _. ⌜ decode dualLayout (now (x .exit)) ≡ solveStarts dualAlgebra n (now (order .entry)) (decode dualLayout (now (b .entry))) ⌝ }
+    ensures { λ _. ⌜ dualRecords (now (x .exit)) ≡ solveStarts dualAlgebra n (now (order .entry)) (dualRecords (now (b .entry))) ⌝ }
 {
     for k in 0..n {
         let p = order[k];
-        dual_cells::write(x, k, dual_cells::read(b, p));
+        dual::write(x, k, dual::read(b, p));
     }
 }
 
@@ -120,7 +119,7 @@ pub(crate) fn solve_run(n: usize, a: &[f64], order: &[usize], b: &[f64], x: &mut
     requires { ⌜ Order n (now order) ⌝ }
     requires { ⌜ length (now b) ≡ n * 2 ⌝ }
     requires { ⌜ length (now x) ≡ n * 2 ⌝ }
-    ensures { λ _. ⌜ decode dualLayout (now (x .exit)) ≡ solveOf dualAlgebra n (decode dualLayout (now (a .entry))) (now (order .entry)) (decode dualLayout (now (b .entry))) ⌝ }
+    ensures { λ _. ⌜ dualRecords (now (x .exit)) ≡ solveOf dualAlgebra n (dualRecords (now (a .entry))) (now (order .entry)) (dualRecords (now (b .entry))) ⌝ }
 {
     solve_starts(n, order, b, x);
     run(n, a, x, 1, 0);
@@ -130,12 +129,12 @@ pub(crate) fn solve_run(n: usize, a: &[f64], order: &[usize], b: &[f64], x: &mut
 fn inverse_starts(n: usize, order: &[usize], x: &mut [f64])
     requires { ⌜ Order n (now order) ⌝ }
     requires { ⌜ Square 2 n (now x) ⌝ }
-    ensures { λ _. ⌜ decode dualLayout (now (x .exit)) ≡ units dualAlgebra n (now (order .entry)) ⌝ }
+    ensures { λ _. ⌜ dualRecords (now (x .exit)) ≡ units dualAlgebra n (now (order .entry)) ⌝ }
 {
     floats::clear(x);
     for i in 0..n {
         let p = order[i];
-        dual_cells::write(x, i * n + p, Dual::ONE);
+        dual::write(x, i * n + p, Dual::ONE);
     }
 }
 
@@ -144,7 +143,7 @@ pub(crate) fn inverse_run(n: usize, a: &[f64], order: &[usize], x: &mut [f64])
     requires { ⌜ Square 2 n (now a) ⌝ }
     requires { ⌜ Order n (now order) ⌝ }
     requires { ⌜ Square 2 n (now x) ⌝ }
-    ensures { λ _. ⌜ decode dualLayout (now (x .exit)) ≡ inverseOf dualAlgebra n (decode dualLayout (now (a .entry))) (now (order .entry)) ⌝ }
+    ensures { λ _. ⌜ dualRecords (now (x .exit)) ≡ inverseOf dualAlgebra n (dualRecords (now (a .entry))) (now (order .entry)) ⌝ }
 {
     inverse_starts(n, order, x);
     for j in 0..n {

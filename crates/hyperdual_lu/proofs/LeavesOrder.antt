@@ -4,7 +4,7 @@
 use Rattle.hyperdual.specs.Rules.{outcome}
 use Rattle.matrices.specs.Answers.{luOutcome, luColumn, solveOutcome}
 use Rattle.matrices.proofs.Calls.{LuLeavesOrder, LuEveryRow, leaves-order-by, every-row-by, SolveAfterLu, solve-after-lu-by, InverseAfterLu, inverse-after-lu-by, DeterminantAfterLu, determinant-after-lu-by}
-use Rattle.hyperdual_cells.proofs.Cells.{hyper-dual-laws}
+use Rattle.hyperdual.proofs.Flat.{hyper-dual-laws}
 use Rattle.hyperdual_lu.proofs.lu.Kinds as lu-k
 use Rattle.hyperdual_lu.proofs.lu.Reads as lu-r
 use Rattle.hyperdual_lu.proofs.solve.Kinds as solve-k

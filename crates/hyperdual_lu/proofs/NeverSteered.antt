@@ -4,7 +4,7 @@
 use Rattle.hyperdual.specs.Rules.{hyperDualAlgebra, outcome}
 use Rattle.matrices.specs.Answers.{luOutcome, luColumn, solveOutcome}
 use Rattle.matrices.proofs.Calls.{LuNeverSteered, lu-never-steered-by, SolveNeverSteered, solve-never-steered-by, InverseNeverSteered, inverse-never-steered-by, DeterminantNeverSteered, determinant-never-steered-by}
-use Rattle.hyperdual_cells.proofs.Cells.{hyper-dual-laws}
+use Rattle.hyperdual.proofs.Flat.{hyper-dual-laws}
 use Rattle.hyperdual_lu.proofs.lu.Kinds as lu-k
 use Rattle.hyperdual_lu.proofs.lu.Reads as lu-r
 use Rattle.hyperdual_lu.proofs.solve.Kinds as solve-k

@@ -6,8 +6,7 @@ use matrices::Marks;
 ghost use mathlib.Core.Path.{_≡_};
 ghost use Prim.Native.Nat.{_+_, _*_, _<_, _≤_};
 ghost use lib.ListN.{length};
-ghost use Rattle.algebra.specs.Flat.{decode};
-ghost use Rattle.hyperdual.specs.Rules.{hyperDualAlgebra, hyperDualLayout, outcome};
+ghost use Rattle.hyperdual.specs.Rules.{hyperDualAlgebra, hyperDualLayout, hyperDualRecords, outcome};
 ghost use Rattle.matrices.specs.Matrix.{Square, RowPlace, cell};
 ghost use Rattle.matrices.specs.Lu.{going, subtractMultiple, subtractRow, reduceRow, reduce, column, countUp, luOf};
 ghost use Rattle.matrices.specs.RunAfter.{runAfter, swapsOf};
@@ -17,19 +16,19 @@ ghost use Rattle.matrices.specs.Entries.{determinantLeft};
 // Record `to` less x times record `from`.
 fn subtract_record(a: &mut [f64], to: usize, from: usize, x: HyperDual)
     requires { ⌜ (to * 4 + 3 < length (now a)) × (from * 4 + 3 < length (now a)) ⌝ }
-    ensures { λ _. ⌜ decode hyperDualLayout (now (a .exit)) ≡ subtractMultiple hyperDualAlgebra to from x (decode hyperDualLayout (now (a .entry))) ⌝ }
+    ensures { λ _. ⌜ hyperDualRecords (now (a .exit)) ≡ subtractMultiple hyperDualAlgebra to from x (hyperDualRecords (now (a .entry))) ⌝ }
 {
-    let u = hyperdual_cells::read(a, to);
-    let v = hyperdual_cells::read(a, from);
-    hyperdual_cells::write(a, to, u.sub(x.mul(v)));
+    let u = hyperdual::read(a, to);
+    let v = hyperdual::read(a, from);
+    hyperdual::write(a, to, u.sub(x.mul(v)));
 }
 
 // The rest of row j, whose multiplier is x.
 fn subtract_row(n: usize, a: &mut [f64], i: usize, j: usize, x: HyperDual)
     requires { ⌜ RowPlace 4 n i (now a) ⌝ }
     requires { ⌜ RowPlace 4 n j (now a) ⌝ }
-    requires { ⌜ cell hyperDualAlgebra n (decode hyperDualLayout (now a)) j i ≡ x ⌝ }
-    ensures { λ _. ⌜ decode hyperDualLayout (now (a .exit)) ≡ subtractRow hyperDualAlgebra n i j (decode hyperDualLayout (now (a .entry))) ⌝ }
+    requires { ⌜ cell hyperDualAlgebra n (hyperDualRecords (now a)) j i ≡ x ⌝ }
+    ensures { λ _. ⌜ hyperDualRecords (now (a .exit)) ≡ subtractRow hyperDualAlgebra n i j (hyperDualRecords (now (a .entry))) ⌝ }
 {
     let to = j * n;
     let from = i * n;
@@ -42,11 +41,11 @@ fn subtract_row(n: usize, a: &mut [f64], i: usize, j: usize, x: HyperDual)
 fn reduce_row(n: usize, a: &mut [f64], i: usize, j: usize)
     requires { ⌜ RowPlace 4 n i (now a) ⌝ }
     requires { ⌜ RowPlace 4 n j (now a) ⌝ }
-    ensures { λ _. ⌜ decode hyperDualLayout (now (a .exit)) ≡ reduceRow hyperDualAlgebra n i j (decode hyperDualLayout (now (a .entry))) ⌝ }
+    ensures { λ _. ⌜ hyperDualRecords (now (a .exit)) ≡ reduceRow hyperDualAlgebra n i j (hyperDualRecords (now (a .entry))) ⌝ }
 {
     let at = j * n + i;
-    let x = hyperdual_cells::read(a, at).div(hyperdual_cells::read(a, i * n + i));
-    hyperdual_cells::write(a, at, x);
+    let x = hyperdual::read(a, at).div(hyperdual::read(a, i * n + i));
+    hyperdual::write(a, at, x);
     subtract_row(n, a, i, j, x);
 }
 
@@ -54,7 +53,7 @@ fn reduce_row(n: usize, a: &mut [f64], i: usize, j: usize)
 fn reduce_rows(n: usize, a: &mut [f64], i: usize)
     requires { ⌜ Square 4 n (now a) ⌝ }
     requires { ⌜ i < n ⌝ }
-    ensures { λ _. ⌜ decode hyperDualLayout (now (a .exit)) ≡ reduce hyperDualAlgebra n i (decode hyperDualLayout (now (a .entry))) ⌝ }
+    ensures { λ _. ⌜ hyperDualRecords (now (a .exit)) ≡ reduce hyperDualAlgebra n i (hyperDualRecords (now (a .entry))) ⌝ }
 {
     for j in i + 1..n {
         reduce_row(n, a, i, j);
@@ -68,7 +67,7 @@ fn run_column(n: usize, a: &mut [f64], order: &mut [usize], i: usize, swaps: usi
     requires { ⌜ i < n ⌝ }
     requires { ⌜ swaps ≤ i ⌝ }
     ensures { λ r. ⌜ swapsOf r ≤ i + 1 ⌝ }
-    ensures { λ r. ⌜ column hyperDualAlgebra n i (going (decode hyperDualLayout (now (a .entry))) (now (order .entry)) swaps) ≡ runAfter r (decode hyperDualLayout (now (a .exit))) (now (order .exit)) ⌝ }
+    ensures { λ r. ⌜ column hyperDualAlgebra n i (going (hyperDualRecords (now (a .entry))) (now (order .entry)) swaps) ≡ runAfter r (hyperDualRecords (now (a .exit))) (now (order .exit)) ⌝ }
 {
     let s = matrices::rows::bring_pivot(4, n, a, order, i, swaps);
     let AfterColumn::Going { swaps: t } = s else {
@@ -82,7 +81,7 @@ fn run_column(n: usize, a: &mut [f64], order: &mut [usize], i: usize, swaps: usi
 pub(crate) fn run_columns(n: usize, a: &mut [f64], order: &mut [usize]) -> AfterColumn
     requires { ⌜ Square 4 n (now a) ⌝ }
     requires { ⌜ now order ≡ countUp n ⌝ }
-    ensures { λ r. ⌜ luOf hyperDualAlgebra n (decode hyperDualLayout (now (a .entry))) ≡ runAfter r (decode hyperDualLayout (now (a .exit))) (now (order .exit)) ⌝ }
+    ensures { λ r. ⌜ luOf hyperDualAlgebra n (hyperDualRecords (now (a .entry))) ≡ runAfter r (hyperDualRecords (now (a .exit))) (now (order .exit)) ⌝ }
 {
     let mut swaps = 0;
     for i in 0..n {
@@ -122,7 +121,7 @@ pub(crate) fn determinant_of(n: usize, a: &[f64], order: &[usize], swaps: usize)
             return HyperDualAnswer::Refused(refusals::NOT_AN_ORDER);
         }
         m = matrices::order::mark(m, k);
-        x = x.mul(hyperdual_cells::read(a, i * n + i));
+        x = x.mul(hyperdual::read(a, i * n + i));
     }
     let number = matrices::refusal::walked(n, m, swaps);
     if number != 0 {

@@ -4,8 +4,7 @@ use hyperdual::HyperDual;
 ghost use mathlib.Core.Path.{_≡_};
 ghost use Prim.Native.Nat.{_+_, _*_, _<_, _≤_};
 ghost use lib.ListN.{length};
-ghost use Rattle.algebra.specs.Flat.{decode};
-ghost use Rattle.hyperdual.specs.Rules.{hyperDualAlgebra, hyperDualLayout};
+ghost use Rattle.hyperdual.specs.Rules.{hyperDualAlgebra, hyperDualRecords};
 ghost use Rattle.matrices.specs.Matrix.{Square, RowPlace};
 ghost use Rattle.matrices.specs.Solve.{Strided, lessProduct, lessRow, forwardRowFrom, forwardFrom, backRow, back, substituteFrom, solveStarts, solveOf};
 ghost use Rattle.matrices.specs.Inverse.{units, inverseOf};
@@ -14,9 +13,9 @@ ghost use Rattle.matrices.specs.Order.{Order};
 // v less record p of a times record q of x.
 fn less_product(v: HyperDual, a: &[f64], p: usize, x: &[f64], q: usize) -> HyperDual
     requires { ⌜ (p * 4 + 3 < length (now a)) × (q * 4 + 3 < length (now x)) ⌝ }
-    ensures { λ r. ⌜ r ≡ lessProduct hyperDualAlgebra v (decode hyperDualLayout (now (a .entry))) p (decode hyperDualLayout (now (x .entry))) q ⌝ }
+    ensures { λ r. ⌜ r ≡ lessProduct hyperDualAlgebra v (hyperDualRecords (now (a .entry))) p (hyperDualRecords (now (x .entry))) q ⌝ }
 {
-    v.sub(hyperdual_cells::read(a, p).mul(hyperdual_cells::read(x, q)))
+    v.sub(hyperdual::read(a, p).mul(hyperdual::read(x, q)))
 }
 
 // v less the products of row i with x, columns lo..hi.
@@ -34,7 +33,7 @@ fn less_row(
     requires { ⌜ RowPlace 4 n i (now a) ⌝ }
     requires { ⌜ Strided 4 n stride base (now x) ⌝ }
     requires { ⌜ hi ≤ n ⌝ }
-    ensures { λ r. ⌜ r ≡ lessRow hyperDualAlgebra n (decode hyperDualLayout (now (a .entry))) stride base i (decode hyperDualLayout (now (x .entry))) lo hi v ⌝ }
+    ensures { λ r. ⌜ r ≡ lessRow hyperDualAlgebra n (hyperDualRecords (now (a .entry))) stride base i (hyperDualRecords (now (x .entry))) lo hi v ⌝ }
 {
     let row = i * n;
     let mut r = v;
@@ -49,19 +48,19 @@ fn forward_row(n: usize, a: &[f64], x: &mut [f64], stride: usize, base: usize, i
     requires { ⌜ RowPlace 4 n i (now a) ⌝ }
     requires { ⌜ Strided 4 n stride base (now x) ⌝ }
     requires { ⌜ (i * stride + base) * 4 + 4 ≤ length (now x) ⌝ }
-    ensures { λ _. ⌜ decode hyperDualLayout (now (x .exit)) ≡ forwardRowFrom hyperDualAlgebra n (decode hyperDualLayout (now (a .entry))) stride base i (decode hyperDualLayout (now (x .entry))) ⌝ }
+    ensures { λ _. ⌜ hyperDualRecords (now (x .exit)) ≡ forwardRowFrom hyperDualAlgebra n (hyperDualRecords (now (a .entry))) stride base i (hyperDualRecords (now (x .entry))) ⌝ }
 {
     let at = i * stride + base;
-    let v = hyperdual_cells::read(x, at);
+    let v = hyperdual::read(x, at);
     let r = less_row(n, a, x, stride, base, i, 0, i, v);
-    hyperdual_cells::write(x, at, r);
+    hyperdual::write(x, at, r);
 }
 
 // From the first element down.
 fn run_forward(n: usize, a: &[f64], x: &mut [f64], stride: usize, base: usize)
     requires { ⌜ Square 4 n (now a) ⌝ }
     requires { ⌜ Strided 4 n stride base (now x) ⌝ }
-    ensures { λ _. ⌜ decode hyperDualLayout (now (x .exit)) ≡ forwardFrom hyperDualAlgebra n (decode hyperDualLayout (now (a .entry))) stride base (decode hyperDualLayout (now (x .entry))) ⌝ }
+    ensures { λ _. ⌜ hyperDualRecords (now (x .exit)) ≡ forwardFrom hyperDualAlgebra n (hyperDualRecords (now (a .entry))) stride base (hyperDualRecords (now (x .entry))) ⌝ }
 {
     for i in 0..n {
         forward_row(n, a, x, stride, base, i);
@@ -73,28 +72,18 @@ fn back_row(n: usize, a: &[f64], x: &mut [f64], stride: usize, base: usize, i: u
     requires { ⌜ RowPlace 4 n i (now a) ⌝ }
     requires { ⌜ Strided 4 n stride base (now x) ⌝ }
     requires { ⌜ (i * stride + base) * 4 + 4 ≤ length (now x) ⌝ }
-    ensures { λ _. ⌜ decode hyperDualLayout (now (x .exit)) ≡ backRow hyperDualAlgebra n (decode hyperDualLayout (now (a .entry))) stride base i (decode hyperDualLayout (now (x .entry))) ⌝ }
+    ensures { λ _. ⌜ hyperDualRecords (now (x .exit)) ≡ backRow hyperDualAlgebra n (hyperDualRecords (now (a .entry))) stride base i (hyperDualRecords (now (x .entry))) ⌝ }
 {
     let at = i * stride + base;
-    let r = less_row(
-        n,
-        a,
-        x,
-        stride,
-        base,
-        i,
-        i + 1,
-        n,
-        hyperdual_cells::read(x, at),
-    );
-    hyperdual_cells::write(x, at, r.div(hyperdual_cells::read(a, i * n + i)));
+    let r = less_row(n, a, x, stride, base, i, i + 1, n, hyperdual::read(x, at));
+    hyperdual::write(x, at, r.div(hyperdual::read(a, i * n + i)));
 }
 
 // From the last element up.
 fn run_back(n: usize, a: &[f64], x: &mut [f64], stride: usize, base: usize)
     requires { ⌜ Square 4 n (now a) ⌝ }
     requires { ⌜ Strided 4 n stride base (now x) ⌝ }
-    ensures { λ _. ⌜ decode hyperDualLayout (now (x .exit)) ≡ back hyperDualAlgebra n (decode hyperDualLayout (now (a .entry))) stride base (decode hyperDualLayout (now (x .entry))) ⌝ }
+    ensures { λ _. ⌜ hyperDualRecords (now (x .exit)) ≡ back hyperDualAlgebra n (hyperDualRecords (now (a .entry))) stride base (hyperDualRecords (now (x .entry))) ⌝ }
 {
     for t in 0..n {
         back_row(n, a, x, stride, base, n - 1 - t);
@@ -105,7 +94,7 @@ fn run_back(n: usize, a: &[f64], x: &mut [f64], stride: usize, base: usize)
 fn run(n: usize, a: &[f64], x: &mut [f64], stride: usize, base: usize)
     requires { ⌜ Square 4 n (now a) ⌝ }
     requires { ⌜ Strided 4 n stride base (now x) ⌝ }
-    ensures { λ _. ⌜ decode hyperDualLayout (now (x .exit)) ≡ substituteFrom hyperDualAlgebra n (decode hyperDualLayout (now (a .entry))) stride base (decode hyperDualLayout (now (x .entry))) ⌝ }
+    ensures { λ _. ⌜ hyperDualRecords (now (x .exit)) ≡ substituteFrom hyperDualAlgebra n (hyperDualRecords (now (a .entry))) stride base (hyperDualRecords (now (x .entry))) ⌝ }
 {
     run_forward(n, a, x, stride, base);
     run_back(n, a, x, stride, base);
@@ -116,11 +105,11 @@ fn solve_starts(n: usize, order: &[usize], b: &[f64], x: &mut [f64])
     requires { ⌜ Order n (now order) ⌝ }
     requires { ⌜ length (now b) ≡ n * 4 ⌝ }
     requires { ⌜ length (now x) ≡ n * 4 ⌝ }
-    ensures { λ _. ⌜ decode hyperDualLayout (now (x .exit)) ≡ solveStarts hyperDualAlgebra n (now (order .entry)) (decode hyperDualLayout (now (b .entry))) ⌝ }
+    ensures { λ _. ⌜ hyperDualRecords (now (x .exit)) ≡ solveStarts hyperDualAlgebra n (now (order .entry)) (hyperDualRecords (now (b .entry))) ⌝ }
 {
     for k in 0..n {
         let p = order[k];
-        hyperdual_cells::write(x, k, hyperdual_cells::read(b, p));
+        hyperdual::write(x, k, hyperdual::read(b, p));
     }
 }
 
@@ -130,7 +119,7 @@ pub(crate) fn solve_run(n: usize, a: &[f64], order: &[usize], b: &[f64], x: &mut
     requires { ⌜ Order n (now order) ⌝ }
     requires { ⌜ length (now b) ≡ n * 4 ⌝ }
     requires { ⌜ length (now x) ≡ n * 4 ⌝ }
-    ensures { λ _. ⌜ decode hyperDualLayout (now (x .exit)) ≡ solveOf hyperDualAlgebra n (decode hyperDualLayout (now (a .entry))) (now (order .entry)) (decode hyperDualLayout (now (b .entry))) ⌝ }
+    ensures { λ _. ⌜ hyperDualRecords (now (x .exit)) ≡ solveOf hyperDualAlgebra n (hyperDualRecords (now (a .entry))) (now (order .entry)) (hyperDualRecords (now (b .entry))) ⌝ }
 {
     solve_starts(n, order, b, x);
     run(n, a, x, 1, 0);
@@ -140,12 +129,12 @@ pub(crate) fn solve_run(n: usize, a: &[f64], order: &[usize], b: &[f64], x: &mut
 fn inverse_starts(n: usize, order: &[usize], x: &mut [f64])
     requires { ⌜ Order n (now order) ⌝ }
     requires { ⌜ Square 4 n (now x) ⌝ }
-    ensures { λ _. ⌜ decode hyperDualLayout (now (x .exit)) ≡ units hyperDualAlgebra n (now (order .entry)) ⌝ }
+    ensures { λ _. ⌜ hyperDualRecords (now (x .exit)) ≡ units hyperDualAlgebra n (now (order .entry)) ⌝ }
 {
     floats::clear(x);
     for i in 0..n {
         let p = order[i];
-        hyperdual_cells::write(x, i * n + p, HyperDual::ONE);
+        hyperdual::write(x, i * n + p, HyperDual::ONE);
     }
 }
 
@@ -154,7 +143,7 @@ pub(crate) fn inverse_run(n: usize, a: &[f64], order: &[usize], x: &mut [f64])
     requires { ⌜ Square 4 n (now a) ⌝ }
     requires { ⌜ Order n (now order) ⌝ }
     requires { ⌜ Square 4 n (now x) ⌝ }
-    ensures { λ _. ⌜ decode hyperDualLayout (now (x .exit)) ≡ inverseOf hyperDualAlgebra n (decode hyperDualLayout (now (a .entry))) (now (order .entry)) ⌝ }
+    ensures { λ _. ⌜ hyperDualRecords (now (x .exit)) ≡ inverseOf hyperDualAlgebra n (hyperDualRecords (now (a .entry))) (now (order .entry)) ⌝ }
 {
     inverse_starts(n, order, x);
     for j in 0..n {

@@ -1,6 +1,7 @@
+-- The number 0 of the lengths allows the walk, which finds 7 and 8 itself (EntriesAnswered).
 use borrow.Author.Needs.{needs}
 use Rattle.matrices.proofs.EntriesAnswered.{determinant-allowed, determinant-unfit}
-use Rattle.dual_cells.proofs.Cells.{dual-laws}
+use Rattle.dual.proofs.Flat.{dual-laws}
 use Rattle.dual_lu.proofs.determinant.Statement.{statement}
 use Rattle.dual_lu.proofs.determinant.Tie as tie
 

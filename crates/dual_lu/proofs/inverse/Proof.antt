@@ -1,8 +1,9 @@
+-- The number 0 allows the work; each way out is one of the promise (EntriesAnswered).
 use borrow.Author.Needs.{needs}
 use Rattle.dual.specs.Rules.{dualAlgebra, dualLayout}
 use Rattle.matrices.proofs.Answers.{inverse-refused}
 use Rattle.matrices.proofs.EntriesAnswered.{inverse-allowed, inverse-answers}
-use Rattle.dual_cells.proofs.Cells.{dual-laws}
+use Rattle.dual.proofs.Flat.{dual-laws}
 use Rattle.dual_lu.proofs.inverse.Statement.{statement}
 use Rattle.dual_lu.proofs.inverse.Tie as tie
 

@@ -1,9 +1,10 @@
+-- The number 0 allows the work; each way out is one of the promise (EntriesAnswered).
 use borrow.Author.Needs.{needs}
 use denote.Ref.{now}
 use Rattle.dual.specs.Rules.{dualAlgebra, dualLayout}
 use Rattle.matrices.proofs.Answers.{solve-refused}
 use Rattle.matrices.proofs.EntriesAnswered.{solve-allowed, solve-answers}
-use Rattle.dual_cells.proofs.Cells.{dual-laws}
+use Rattle.dual.proofs.Flat.{dual-laws}
 use Rattle.dual_lu.proofs.solve.Statement.{statement}
 use Rattle.dual_lu.proofs.solve.Tie as tie
 

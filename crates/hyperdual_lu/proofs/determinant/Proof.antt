@@ -1,6 +1,7 @@
+-- The number 0 of the lengths allows the walk, which finds 7 and 8 itself (EntriesAnswered).
 use borrow.Author.Needs.{needs}
 use Rattle.matrices.proofs.EntriesAnswered.{determinant-allowed, determinant-unfit}
-use Rattle.hyperdual_cells.proofs.Cells.{hyper-dual-laws}
+use Rattle.hyperdual.proofs.Flat.{hyper-dual-laws}
 use Rattle.hyperdual_lu.proofs.determinant.Statement.{statement}
 use Rattle.hyperdual_lu.proofs.determinant.Tie as tie
 

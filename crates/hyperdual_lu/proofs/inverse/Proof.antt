@@ -1,8 +1,9 @@
+-- The number 0 allows the work; each way out is one of the promise (EntriesAnswered).
 use borrow.Author.Needs.{needs}
 use Rattle.hyperdual.specs.Rules.{hyperDualAlgebra, hyperDualLayout}
 use Rattle.matrices.proofs.Answers.{inverse-refused}
 use Rattle.matrices.proofs.EntriesAnswered.{inverse-allowed, inverse-answers}
-use Rattle.hyperdual_cells.proofs.Cells.{hyper-dual-laws}
+use Rattle.hyperdual.proofs.Flat.{hyper-dual-laws}
 use Rattle.hyperdual_lu.proofs.inverse.Statement.{statement}
 use Rattle.hyperdual_lu.proofs.inverse.Tie as tie
 

@@ -1,9 +1,10 @@
+-- The number 0 allows the work; each way out is one of the promise (EntriesAnswered).
 use borrow.Author.Needs.{needs}
 use denote.Ref.{now}
 use Rattle.hyperdual.specs.Rules.{hyperDualAlgebra, hyperDualLayout}
 use Rattle.matrices.proofs.Answers.{lu-refused}
 use Rattle.matrices.proofs.EntriesAnswered.{lu-allowed, lu-answers}
-use Rattle.hyperdual_cells.proofs.Cells.{hyper-dual-laws}
+use Rattle.hyperdual.proofs.Flat.{hyper-dual-laws}
 use Rattle.hyperdual_lu.proofs.lu.Statement.{statement}
 use Rattle.hyperdual_lu.proofs.lu.Tie as tie
 

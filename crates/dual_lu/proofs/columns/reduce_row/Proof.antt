@@ -1,6 +1,7 @@
+-- The multiplier is stored before the row is run, as in the definition (RowsReduced).
 use borrow.Author.Needs.{needs}
 use Rattle.matrices.proofs.RowsReduced.{multiplier-stored, reduced}
-use Rattle.dual_cells.proofs.Cells.{dual-laws}
+use Rattle.dual.proofs.Flat.{dual-laws}
 use Rattle.dual_lu.proofs.columns.reduce_row.Statement.{statement}
 use Rattle.dual_lu.proofs.columns.reduce_row.Tie as tie
 

@@ -1,3 +1,4 @@
+-- The pivot brought up in floats is the definition's; each way out is one of the column's (ColumnsRun).
 use borrow.Author.Needs.{needs}
 use mathlib.Core.Path.{_≡_, ap}
 use native.Mathlib.Omega.{arith}
@@ -8,7 +9,7 @@ use Rattle.matrices.specs.Lu.{going, reduceRun, column}
 use Rattle.matrices.specs.RunAfter.{runAfter, swapsOf}
 use Rattle.matrices.proofs.RowsOfRecords.{column-by}
 use Rattle.matrices.proofs.ColumnsRun.{column-stops, column-goes}
-use Rattle.dual_cells.proofs.Cells.{dual-laws}
+use Rattle.dual.proofs.Flat.{dual-laws}
 use Rattle.dual_lu.proofs.columns.run_column.Statement.{statement}
 use Rattle.dual_lu.proofs.columns.run_column.Tie as tie
 

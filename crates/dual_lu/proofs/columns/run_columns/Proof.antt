@@ -1,7 +1,8 @@
+-- The loop keeps: the columns left to run give LU (ColumnsRun).
 use borrow.Author.Needs.{needs}
 use Prim.Native.Nat.{_-_}
 use Rattle.matrices.proofs.ColumnsRun.{Columns, columns-start, columns-turn, columns-stop, columns-end}
-use Rattle.dual_cells.proofs.Cells.{dual-laws}
+use Rattle.dual.proofs.Flat.{dual-laws}
 use Rattle.dual_lu.proofs.columns.run_columns.Statement.{statement}
 use Rattle.dual_lu.proofs.columns.run_columns.Tie as tie
 

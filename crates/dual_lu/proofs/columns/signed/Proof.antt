@@ -1,6 +1,7 @@
+-- Each way out is a case of the definition's test of the count.
 use borrow.Author.Needs.{needs}
 use Rattle.matrices.proofs.DiagonalWalk.{sign-odd, sign-even}
-use Rattle.dual_cells.proofs.Cells.{dual-laws}
+use Rattle.dual.proofs.Flat.{dual-laws}
 use Rattle.dual_lu.proofs.columns.signed.Statement.{statement}
 use Rattle.dual_lu.proofs.columns.signed.Tie as tie
 

@@ -1,7 +1,8 @@
+-- The loop keeps: the multiplier as it is, and what is left to run gives the whole row (RowsReduced).
 use borrow.Author.Needs.{needs}
 use Prim.Native.Nat.{_-_}
 use Rattle.matrices.proofs.RowsReduced.{Subtracting, subtract-start, subtract-turn, subtract-end}
-use Rattle.dual_cells.proofs.Cells.{dual-laws}
+use Rattle.dual.proofs.Flat.{dual-laws}
 use Rattle.dual_lu.proofs.columns.subtract_row.Statement.{statement}
 use Rattle.dual_lu.proofs.columns.subtract_row.Tie as tie
 

@@ -1,6 +1,7 @@
+-- The element is made in hand and stored once; the definition stores it at each product, to the same end (Substitution).
 use borrow.Author.Needs.{needs}
 use Rattle.matrices.proofs.Substitution.{backed}
-use Rattle.dual_cells.proofs.Cells.{dual-laws}
+use Rattle.dual.proofs.Flat.{dual-laws}
 use Rattle.dual_lu.proofs.substitution.back_row.Statement.{statement}
 use Rattle.dual_lu.proofs.substitution.back_row.Tie as tie
 

@@ -1,10 +1,11 @@
+-- The loop keeps: the columns left to run give the inverse (StartsWritten).
 use borrow.Author.Needs.{needs}
 use Prim.Native.Nat.{_-_}
 use Rattle.matrices.specs.Matrix.{Square}
 use Rattle.matrices.proofs.Places.{strided-column}
 use Rattle.matrices.proofs.Turns.{run-turn, run-end}
 use Rattle.matrices.proofs.StartsWritten.{Inverting, inverse-start}
-use Rattle.dual_cells.proofs.Cells.{dual-laws}
+use Rattle.dual.proofs.Flat.{dual-laws}
 use Rattle.dual_lu.proofs.substitution.inverse_run.Statement.{statement}
 use Rattle.dual_lu.proofs.substitution.inverse_run.Tie as tie
 
@@ -14,6 +15,7 @@ Inv-loop n a order x₀ j₀ x j = Inverting dual-laws n a order x₀ x j
 abbrev μ-loop : tie.MeasureT-loop
 μ-loop n a order x₀ j₀ x j = n - j
 
+-- column j is a vector in the floats
 run-requires : tie.Need-run-requires Inv-loop μ-loop
 run-requires c κs =
     let at = c .before .before in

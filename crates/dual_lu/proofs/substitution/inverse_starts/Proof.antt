@@ -1,3 +1,4 @@
+-- The loop keeps: the ones left to write give all starts (StartsWritten).
 use borrow.Author.Needs.{needs}
 use Prim.Native.Nat.{_-_, _<_}
 use denote.Ref.{now}
@@ -8,7 +9,7 @@ use Rattle.matrices.proofs.Permutation.{order-below}
 use Rattle.matrices.proofs.Places.{row-place}
 use Rattle.matrices.proofs.Turns.{run-end}
 use Rattle.matrices.proofs.StartsWritten.{Ones, ones-start, ones-turn}
-use Rattle.dual_cells.proofs.Cells.{dual-laws}
+use Rattle.dual.proofs.Flat.{dual-laws}
 use Rattle.dual_lu.proofs.substitution.inverse_starts.Statement.{statement}
 use Rattle.dual_lu.proofs.substitution.inverse_starts.Tie as tie
 

@@ -1,7 +1,8 @@
+-- Forward, then back, as in the definition.
 use borrow.Author.Needs.{needs}
 use Rattle.matrices.proofs.Places.{strided-keep}
 use Rattle.matrices.proofs.Substitution.{substituted}
-use Rattle.dual_cells.proofs.Cells.{dual-laws}
+use Rattle.dual.proofs.Flat.{dual-laws}
 use Rattle.dual_lu.proofs.substitution.run.Statement.{statement}
 use Rattle.dual_lu.proofs.substitution.run.Tie as tie
 

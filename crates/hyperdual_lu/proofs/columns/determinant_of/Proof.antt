@@ -1,10 +1,11 @@
+-- The loop keeps: the diagonal's product and the order's marks, each as far as the turn (DiagonalWalk).
 use borrow.Author.Needs.{needs}
 use Prim.Native.Nat.{_-_}
 use denote.Ref.{now}
 use Rattle.matrices.specs.Matrix.{RowPlace}
 use Rattle.matrices.proofs.Places.{row-place}
 use Rattle.matrices.proofs.DiagonalWalk.{Walking, walking, walk-bit, walk-turn, walk-stop, walk-refused, walk-end}
-use Rattle.hyperdual_cells.proofs.Cells.{hyper-dual-laws}
+use Rattle.hyperdual.proofs.Flat.{hyper-dual-laws}
 use Rattle.hyperdual_lu.proofs.columns.determinant_of.Statement.{statement}
 use Rattle.hyperdual_lu.proofs.columns.determinant_of.Tie as tie
 

@@ -1,6 +1,7 @@
+-- The multiplier is stored before the row is run, as in the definition (RowsReduced).
 use borrow.Author.Needs.{needs}
 use Rattle.matrices.proofs.RowsReduced.{multiplier-stored, reduced}
-use Rattle.hyperdual_cells.proofs.Cells.{hyper-dual-laws}
+use Rattle.hyperdual.proofs.Flat.{hyper-dual-laws}
 use Rattle.hyperdual_lu.proofs.columns.reduce_row.Statement.{statement}
 use Rattle.hyperdual_lu.proofs.columns.reduce_row.Tie as tie
 

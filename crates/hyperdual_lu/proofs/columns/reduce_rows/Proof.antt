@@ -1,9 +1,10 @@
+-- The loop keeps: the rows left to reduce give the whole (Turns).
 use borrow.Author.Needs.{needs}
 use Prim.Native.Nat.{_-_}
 use Rattle.matrices.proofs.Places.{row-place-kept}
 use Rattle.matrices.proofs.Turns.{run-turn, run-end}
 use Rattle.matrices.proofs.RowsReduced.{Reducing, reducing}
-use Rattle.hyperdual_cells.proofs.Cells.{hyper-dual-laws}
+use Rattle.hyperdual.proofs.Flat.{hyper-dual-laws}
 use Rattle.hyperdual_lu.proofs.columns.reduce_rows.Statement.{statement}
 use Rattle.hyperdual_lu.proofs.columns.reduce_rows.Tie as tie
 

@@ -1,6 +1,7 @@
+-- Each way out is a case of the definition's test of the count.
 use borrow.Author.Needs.{needs}
 use Rattle.matrices.proofs.DiagonalWalk.{sign-odd, sign-even}
-use Rattle.hyperdual_cells.proofs.Cells.{hyper-dual-laws}
+use Rattle.hyperdual.proofs.Flat.{hyper-dual-laws}
 use Rattle.hyperdual_lu.proofs.columns.signed.Statement.{statement}
 use Rattle.hyperdual_lu.proofs.columns.signed.Tie as tie
 

@@ -1,6 +1,7 @@
+-- The element is made in hand and stored once; the definition stores it at each product, to the same end (Substitution).
 use borrow.Author.Needs.{needs}
 use Rattle.matrices.proofs.Substitution.{forwarded}
-use Rattle.hyperdual_cells.proofs.Cells.{hyper-dual-laws}
+use Rattle.hyperdual.proofs.Flat.{hyper-dual-laws}
 use Rattle.hyperdual_lu.proofs.substitution.forward_row.Statement.{statement}
 use Rattle.hyperdual_lu.proofs.substitution.forward_row.Tie as tie
 

@@ -1,3 +1,4 @@
+-- The body is the definition's own operations in its order, so that every need is found.
 use borrow.Author.Needs.{needs}
 use Rattle.hyperdual_lu.proofs.substitution.less_product.Statement.{statement}
 use Rattle.hyperdual_lu.proofs.substitution.less_product.Tie as tie

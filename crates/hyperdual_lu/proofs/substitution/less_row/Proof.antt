@@ -1,10 +1,11 @@
+-- The loop keeps: the products left to take give the whole row (Substitution).
 use borrow.Author.Needs.{needs}
 use Prim.Native.Nat.{_+_, _*_, _≤_, _-_}
 use denote.Ref.{now}
 use lib.ListN.{length}
 use native.Mathlib.Omega.{arith}
 use Rattle.matrices.proofs.Substitution.{Lessening, lessening, less-turn, less-end}
-use Rattle.hyperdual_cells.proofs.Cells.{hyper-dual-laws}
+use Rattle.hyperdual.proofs.Flat.{hyper-dual-laws}
 use Rattle.hyperdual_lu.proofs.substitution.less_row.Statement.{statement}
 use Rattle.hyperdual_lu.proofs.substitution.less_row.Tie as tie
 

@@ -1,7 +1,8 @@
+-- Forward, then back, as in the definition.
 use borrow.Author.Needs.{needs}
 use Rattle.matrices.proofs.Places.{strided-keep}
 use Rattle.matrices.proofs.Substitution.{substituted}
-use Rattle.hyperdual_cells.proofs.Cells.{hyper-dual-laws}
+use Rattle.hyperdual.proofs.Flat.{hyper-dual-laws}
 use Rattle.hyperdual_lu.proofs.substitution.run.Statement.{statement}
 use Rattle.hyperdual_lu.proofs.substitution.run.Tie as tie
 

@@ -1,10 +1,11 @@
+-- The loop keeps: the elements left to make, from the last back, give the whole (Turns).
 use borrow.Author.Needs.{needs}
 use Prim.Native.Nat.{_-_, _<_}
 use native.Mathlib.Omega.{arith}
 use Rattle.matrices.proofs.Places.{row-place, strided-keep, strided-place}
 use Rattle.matrices.proofs.Turns.{run-turn, run-end}
 use Rattle.matrices.proofs.Substitution.{Backing, backing}
-use Rattle.hyperdual_cells.proofs.Cells.{hyper-dual-laws}
+use Rattle.hyperdual.proofs.Flat.{hyper-dual-laws}
 use Rattle.hyperdual_lu.proofs.substitution.run_back.Statement.{statement}
 use Rattle.hyperdual_lu.proofs.substitution.run_back.Tie as tie
 
@@ -14,6 +15,7 @@ Inv-loop n a x₀ stride base t₀ x t = Backing hyper-dual-laws n a x₀ stride
 abbrev μ-loop : tie.MeasureT-loop
 μ-loop n a x₀ stride base t₀ x t = n - t
 
+-- the rows from the last back are rows
 back-row-requires : tie.Need-back-row-requires Inv-loop μ-loop
 back-row-requires c κs =
     let n = c .before .before .before .before .before .args .n in

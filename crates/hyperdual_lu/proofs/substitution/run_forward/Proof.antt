@@ -1,9 +1,10 @@
+-- The loop keeps: the elements left to make, from the first on, give the whole (Turns).
 use borrow.Author.Needs.{needs}
 use Prim.Native.Nat.{_-_}
 use Rattle.matrices.proofs.Places.{row-place, strided-keep, strided-place}
 use Rattle.matrices.proofs.Turns.{run-turn, run-end}
 use Rattle.matrices.proofs.Substitution.{Forwarding, forwarding}
-use Rattle.hyperdual_cells.proofs.Cells.{hyper-dual-laws}
+use Rattle.hyperdual.proofs.Flat.{hyper-dual-laws}
 use Rattle.hyperdual_lu.proofs.substitution.run_forward.Statement.{statement}
 use Rattle.hyperdual_lu.proofs.substitution.run_forward.Tie as tie
 

@@ -1,7 +1,8 @@
+-- All starts written first give what the definition's, row by row, give (StartsWritten).
 use borrow.Author.Needs.{needs}
 use Rattle.matrices.proofs.Places.{whole-kept}
 use Rattle.matrices.proofs.StartsWritten.{solved}
-use Rattle.hyperdual_cells.proofs.Cells.{hyper-dual-laws}
+use Rattle.hyperdual.proofs.Flat.{hyper-dual-laws}
 use Rattle.hyperdual_lu.proofs.substitution.solve_run.Statement.{statement}
 use Rattle.hyperdual_lu.proofs.substitution.solve_run.Tie as tie
 

@@ -1,10 +1,11 @@
+-- The loop keeps: the elements passed hold their starts (StartsWritten).
 use borrow.Author.Needs.{needs}
 use Prim.Native.Nat.{_-_}
 use denote.Ref.{now}
 use native.Mathlib.Omega.{arith}
 use Rattle.matrices.proofs.Permutation.{order-below}
 use Rattle.matrices.proofs.StartsWritten.{Starting, starting, start-turn, start-end, startOf}
-use Rattle.hyperdual_cells.proofs.Cells.{hyper-dual-laws}
+use Rattle.hyperdual.proofs.Flat.{hyper-dual-laws}
 use Rattle.hyperdual_lu.proofs.substitution.solve_starts.Statement.{statement}
 use Rattle.hyperdual_lu.proofs.substitution.solve_starts.Tie as tie
 
@@ -14,6 +15,7 @@ Inv-loop n order b x₀ k₀ x k = Starting hyper-dual-laws (startOf hyper-dual-
 abbrev μ-loop : tie.MeasureT-loop
 μ-loop n order b x₀ k₀ x k = n - k
 
+-- an entry of the order is below n, and so is its record in b
 read-requires : tie.Need-read-requires Inv-loop μ-loop
 read-requires c κs =
     let at = c .before .before .before in
