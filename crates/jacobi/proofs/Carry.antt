@@ -21,7 +21,7 @@ use Rattle.algebra.proofs.RealParts.{cond-map}
 use Rattle.matrices.proofs.Slopes.{map-set, map-replicate, exchange-map}
 use Rattle.rotations.proofs.Carry.{re-keeps, item-keeps, mapWork, Follows, store-map, pair-carry}
 use Rattle.jacobi.specs.Sweeps.{Run, going, settled, addSquare, columnSquares, sumOfSquares, thresholdOf, row, sweep, addItem, addAll, closeSweep, step, putOne, identity, putDiagonal, diagonal, start, sweepsOf}
-use Rattle.jacobi.specs.Sort.{Pairs, pairs, Eigen, smaller, least, exchangeInRow, exchangeColumns, bring, select, sort, eigen, ended, ordered, jacobiOf}
+use Rattle.jacobi.specs.Sort.{Pairs, pairs, Eigen, smaller, least, exchangeInRow, exchangeColumns, bringSmallest, select, sort, eigen, ended, ordered, jacobiOf}
 
 blank-map : {R S : Type 0} {A : Algebra R} {B : Algebra S} {g : R → S} → Keeps A B g → (c : ℕ) → map g (replicate c (zeroOf A)) ≡ replicate c (zeroOf B)
 blank-map {A = A} {g = g} k c = map-replicate g c (zeroOf A) ∙ ap (replicate c) (k .fromRe float.zero)
@@ -51,9 +51,9 @@ module _ {R S : Type 0} {A : Algebra R} {B : Algebra S} {g : R → S} (k : Keeps
   unfolding least
   least-keeps d c = upto-map (λ m. m) (smaller A n d) (smaller B n (map g d)) (smaller-keeps d) (c + 1) n c
 
-  bring-map : (m c : ℕ) (e : Pairs R) → mapPairs g (bring A n m c e) ≡ bring B n m c (mapPairs g e)
-  unfolding bring
-  bring-map m c e =
+  bringSmallest-map : (m c : ℕ) (e : Pairs R) → mapPairs g (bringSmallest A n m c e) ≡ bringSmallest B n m c (mapPairs g e)
+  unfolding bringSmallest
+  bringSmallest-map m c e =
       cond-map (mapPairs g) (eqb m c) e (pairs (exchange (zeroOf A) m c (e .d)) (exchangeColumns A n m c (e .v)))
       ∙ (λ i. cond (eqb m c) (mapPairs g e) (pairs ((exchange-map g (zeroOf A) m c (e .d) ∙ ap (λ (z : S). exchange z m c (map g (e .d))) (k .fromRe float.zero)) i) (exchange-columns-map m c (e .v) i)))
 
@@ -61,7 +61,7 @@ module _ {R S : Type 0} {A : Algebra R} {B : Algebra S} {g : R → S} (k : Keeps
   unfolding sort select
   sort-map e =
       upto-map (mapPairs g) (select A n) (select B n)
-      (λ c e′. bring-map (least A n (e′ .d) c) c e′ ∙ ap (λ (m : ℕ). bring B n m c (mapPairs g e′)) (least-keeps (e′ .d) c)) 0 (n - 1) e
+      (λ c e′. bringSmallest-map (least A n (e′ .d) c) c e′ ∙ ap (λ (m : ℕ). bringSmallest B n m c (mapPairs g e′)) (least-keeps (e′ .d) c)) 0 (n - 1) e
 
   add-all-map : (zw bw : List R) → map g (addAll A n zw bw) ≡ addAll B n (map g zw) (map g bw)
   unfolding addAll addItem

@@ -4,8 +4,15 @@ pub mod Carry
 pub mod Above
 -- the entry over any record: its two ways out, two calls
 pub mod Slopes
--- functions of several calls
-mod Calls
+-- scratch and lent floats of the lengths asked, cleared and copied
+pub mod Scratch
+-- what a run starts from
+pub mod Started
+-- the sweeps, and the order
+pub mod Swept
+pub mod Ordered
+-- the entry's tests, and the entry done
+pub mod Answered
 -- no second answer, and no second content of a buffer
 pub mod OneAnswer
 -- demand 3, and the part below the diagonal

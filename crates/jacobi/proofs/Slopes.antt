@@ -9,6 +9,8 @@ use lib.Dec.{ltb, eqb}
 use lib.ListN.{length}
 use lib.Ieee.{Float}
 use borrow.Author.Tests.{ltb-false, eqb-true, eqb-false, eq-eqb, ne-eqb}
+use Rattle.refusals.specs.Largest as largest
+use Rattle.refusals.specs.Number as refusal
 use Rattle.algebra.specs.Algebra.{Algebra, RealParts, reals, zeroOf}
 use Rattle.algebra.specs.Flat.{Layout, Lawful, Agrees, recordAt, decode}
 use Rattle.algebra.specs.Outcome.{value, refused}
@@ -30,28 +32,28 @@ some zero e = absurd (eqb-false 0 0 e refl)
 some (suc n) e = omega arith
 
 pub record JacobiFits (w n a k d v : ℕ) : Type 0 where
-  pub small : n ≤ 32
+  pub small : n ≤ largest.n
   pub some : 0 < n
   pub input : a ≡ n * n * w
   pub values : d ≡ n * w
   pub vectors : v ≡ n * n * w
-  pub limit : k ≤ 1000
+  pub limit : k ≤ largest.limit
 
 pub jacobi-fits : (w n a limit values vectors : ℕ) → jacobiRefusal w n a limit values vectors ≡ 0 → JacobiFits w n a limit values vectors
 jacobi-fits w n a limit d v e =
-    let s = passed (ltb 32 n) 0 _ e in
+    let s = passed (ltb largest.n n) 0 _ e in
     let z = passed (eqb n 0) 2 _ (s .1) in
-    let l = allowed (eqb a (n * n * w) && (eqb d (n * w) && eqb v (n * n * w))) 1 (cond (ltb 1000 limit) 4 0) (z .1) in
+    let l = allowed (eqb a (n * n * w) && (eqb d (n * w) && eqb v (n * n * w))) 1 (cond (ltb largest.limit limit) refusal.limitTooLarge 0) (z .1) in
     let x = both (eqb a (n * n * w)) (eqb d (n * w) && eqb v (n * n * w)) (l .0) in
     let y = both (eqb d (n * w)) (eqb v (n * n * w)) (x .1) in
-    let t = passed (ltb 1000 limit) 3 0 (l .1) in
+    let t = passed (ltb largest.limit limit) 3 0 (l .1) in
     record {
-      small = ltb-false 32 n (s .0);
+      small = ltb-false largest.n n (s .0);
       some = some n (z .0);
       input = eqb-true _ _ (x .0);
       values = eqb-true _ _ (y .0);
       vectors = eqb-true _ _ (y .1);
-      limit = ltb-false 1000 limit (t .0);
+      limit = ltb-false largest.limit limit (t .0);
     }
 
 module _ {R : Type 0} (A : Algebra R) (L : Layout R) (n : ℕ) where
@@ -72,7 +74,7 @@ module _ {R : Type 0} (A : Algebra R) (L : Layout R) (n : ℕ) where
 
 module _ {R : Type 0} (A : Algebra R) (L : Layout R) (W : Lawful L) (G : Agrees A L) (n : ℕ) where
   -- the record at row r and column c, in the floats
-  cell-record : (a : List Float) (r c : ℕ) → length a ≡ n * n * L .width → r < n → c < n → cell A n (decode L a) r c ≡ recordAt L a (r * n + c)
+  pub cell-record : (a : List Float) (r c : ℕ) → length a ≡ n * n * L .width → r < n → c < n → cell A n (decode L a) r c ≡ recordAt L a (r * n + c)
   unfolding cell
   cell-record a r c e hr hc = decode-at L W a (r * n + c) (zeroOf A) (omega (arith, place n r c hr hc, decode-size L W a (n * n) e))
 

@@ -8,8 +8,8 @@ use Rattle.dual_cells.specs.Records.{records}
 use Rattle.rotations.specs.Buffers.{workOf}
 use Rattle.jacobi.specs.declared.JacobiAnswer.{JacobiAnswer}
 use Rattle.jacobi.specs.declared.JacobiAnswer.the-variants.{Done, Refused}
-use Rattle.jacobi.specs.declared.Step.{Step}
-use Rattle.jacobi.specs.declared.Step.the-variants.{Stopped, Swept}
+use Rattle.jacobi.specs.declared.AfterSweep.{AfterSweep}
+use Rattle.jacobi.specs.declared.AfterSweep.the-variants.{Stopped, Swept}
 use Rattle.jacobi.specs.Sweeps.{Run, going, settled}
 
 -- document 01's reading of an answer: done with the sweep count, or the number that the call is refused by
@@ -22,11 +22,11 @@ abbrev pub runOf : List Float → List Float → List Float → List Float → L
 runOf a v d zw bw rotations sweeps = going (workOf a v d zw rotations) (records bw) sweeps
 
 -- the run after sweep it_num, which came with so many rotations, with the buffers as they then are
-abbrev pub runAfter : Step → List Float → List Float → List Float → List Float → List Float → ℕ → ℕ → Run Dual
+abbrev pub runAfter : AfterSweep → List Float → List Float → List Float → List Float → List Float → ℕ → ℕ → Run Dual
 runAfter Stopped a v d zw bw rotations it-num = settled (workOf a v d zw rotations) it-num
 runAfter (Swept more) a v d zw bw rotations it-num = runOf a v d zw bw more (it-num + 1)
 
 -- the rotations so far, where it swept
-abbrev pub rotationsOf : Step → ℕ
+abbrev pub rotationsOf : AfterSweep → ℕ
 rotationsOf Stopped = 0
 rotationsOf (Swept more) = more

@@ -52,12 +52,12 @@ module _ {R : Type 0} (A : Algebra R) (n : ℕ) where
   exchangeColumns m k v = upto 0 n (exchangeInRow m k) v
 
   -- the values m and k with their columns exchanged, if m is not k
-  unfoldable pub bring : ℕ → ℕ → Pairs R → Pairs R
-  bring m k e = cond (eqb m k) e (pairs (exchange (zeroOf A) m k (e .d)) (exchangeColumns m k (e .v)))
+  unfoldable pub bringSmallest : ℕ → ℕ → Pairs R → Pairs R
+  bringSmallest m k e = cond (eqb m k) e (pairs (exchange (zeroOf A) m k (e .d)) (exchangeColumns m k (e .v)))
 
   -- the least from k on brought to k
   unfoldable pub select : ℕ → Pairs R → Pairs R
-  select k e = bring (least (e .d) k) k e
+  select k e = bringSmallest (least (e .d) k) k e
 
   -- for k in 0..n - 1
   unfoldable pub sort : Pairs R → Pairs R

@@ -41,7 +41,7 @@ pub(crate) struct Ended {
 }
 
 // Where a sweep leaves the run: stopped at a zero threshold, or swept, with the rotations so far.
-pub(crate) enum Step {
+pub(crate) enum AfterSweep {
     Stopped,
     Swept { rotations: usize },
 }

@@ -1,6 +1,6 @@
 // The sweeps of a run.
+use super::AfterSweep;
 use super::Ended;
-use super::Step;
 use dual_cells::get;
 use dual_cells::read;
 use dual_cells::write;
@@ -141,7 +141,7 @@ fn step(
     bw: &mut [f64],
     it_num: usize,
     rotations: usize,
-) -> Step
+) -> AfterSweep
     requires { ⌜ Sized n (now a) (now v) (now d) (now zw) ⌝ }
     requires { ⌜ length (now bw) ≡ n * 2 ⌝ }
     requires { ⌜ rotations < 1200000 ⌝ }
@@ -152,11 +152,11 @@ fn step(
 {
     let thresh = threshold(n, a);
     if thresh == 0.0 {
-        return Step::Stopped;
+        return AfterSweep::Stopped;
     }
     let count = sweep(n, a, v, d, zw, thresh, it_num, rotations);
     close_sweep(n, d, zw, bw);
-    Step::Swept { rotations: count }
+    AfterSweep::Swept { rotations: count }
 }
 
 // At most `limit` sweeps.
@@ -179,7 +179,7 @@ pub(crate) fn sweeps(
     let mut rotations = 0;
     for it_num in 0..limit {
         let s = step(n, a, v, d, zw, bw, it_num, rotations);
-        let Step::Swept { rotations: count } = s else {
+        let AfterSweep::Swept { rotations: count } = s else {
             return Ended {
                 sweeps: it_num,
                 rotations,

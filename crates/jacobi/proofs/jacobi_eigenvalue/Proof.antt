@@ -1,58 +1,34 @@
-use mathlib.Core.Path.{sym, _∙_}
-use native.Mathlib.Omega.{arith}
-use denote.Ref.{now}
-use lib.ListN.{length}
-use Rattle.dual.specs.Rules.{dualAlgebra, dualLayout}
-use Rattle.jacobi.proofs.Slopes.{JacobiFits, jacobi-fits, jacobi-refused}
-use Rattle.jacobi.proofs.Calls.{square-of, entry-done}
+-- The entry refuses by the definition's number; where that is 0, the lengths are as a run asks, and the run is the definition's.
 use borrow.Author.Needs.{needs}
+use denote.Ref.{now}
+use Rattle.dual.specs.Rules.{dualAlgebra, dualLayout}
+use Rattle.refusals.specs.Largest as largest
+use Rattle.jacobi.proofs.Answered.{jacobi-allowed, jacobi-small, jacobi-answers}
+use Rattle.jacobi.proofs.Slopes.{jacobi-refused}
 use Rattle.jacobi.proofs.jacobi_eigenvalue.Statement.{statement}
 use Rattle.jacobi.proofs.jacobi_eigenvalue.Tie as tie
 
--- a call that is not refused
-fits : (c : tie.Else1) → JacobiFits 2 (c .before .before .before .before .before .args .n) (length (now (c .before .before .before .before .before .args .a))) (c .before .before .before .before .before .args .limit) (length (now (c .before .before .before .before .before .args .values))) (length (now (c .before .before .before .before .before .args .vectors)))
-fits c =
-    let s = c .before .before .before .before .before .args in
-    jacobi-fits 2 (s .n) (length (now (s .a))) (s .limit) (length (now (s .values))) (length (now (s .vectors))) (sym (c .before .refusal .ensures) ∙ c .if1 .left)
-
-returns : tie.Need-returns
-returns c = jacobi-refused dualAlgebra dualLayout _ _ _ _ _ _ (c .before .refusal .ensures) (c .if1 .taken)
-
+-- a call that is not refused may run, by the scratch that n asks
 run-up-to-8-requires : tie.Need-run-up-to-8-requires
 run-up-to-8-requires c κs =
-    let f = fits (c .before .before .before) in
-    (square-of _ _ (f .small) (f .input), (square-of _ _ (f .small) (f .vectors), (f .values, ((f .some, c .before .before .if2 .taken), f .limit))))
+    let at = c .before .before .before in
+    jacobi-allowed _ _ _ (now (at .before .before .before .before .before .args .values)) _ _ (at .before .refusal .ensures) (at .if1 .left) 8 (c .before .before .if2 .taken)
 
 run-up-to-32-requires : tie.Need-run-up-to-32-requires
 run-up-to-32-requires c κs =
-    let f = fits (c .before .before .before) in
-    (square-of _ _ (f .small) (f .input), (square-of _ _ (f .small) (f .vectors), (f .values, ((f .some, f .small), f .limit))))
-
-returns-2 : tie.Need-returns-2
-returns-2 c =
-    let e = c .before .before .before .before .before .before .before .before in
-    let f = fits e in
-    let d = f .values in
-    let v = f .vectors in
-    entry-done _ _ _ _ _ _ _ _ _ _ (sym (e .before .refusal .ensures) ∙ e .if1 .left) (omega arith) (omega arith) (c .before .before .before .before .run-up-to-8 .ensures)
-
-returns-3 : tie.Need-returns-3
-returns-3 c =
-    let e = c .before .before .before .before .before .before .before .before in
-    let f = fits e in
-    let d = f .values in
-    let v = f .vectors in
-    entry-done _ _ _ _ _ _ _ _ _ _ (sym (e .before .refusal .ensures) ∙ e .if1 .left) (omega arith) (omega arith) (c .before .before .before .before .run-up-to-32 .ensures)
+    let at = c .before .before .before in
+    let s = at .before .before .before .before .before .args in
+    jacobi-allowed _ _ _ (now (s .values)) _ _ (at .before .refusal .ensures) (at .if1 .left) largest.n (jacobi-small (s .n) (now (s .a)) (s .limit) (now (s .values)) (now (s .vectors)) _ (at .before .refusal .ensures) (at .if1 .left))
 
 pub jacobi-eigenvalue-spec : {M : Type 1} → statement M
 jacobi-eigenvalue-spec =
     tie.close
     (tie.spec
     (λ c κs. search needs)
-    returns
+    (λ c. search (needs, jacobi-refused dualAlgebra dualLayout))
     run-up-to-8-requires
     run-up-to-32-requires
     (λ c. search needs) (λ c. search needs)
-    returns-2
+    (λ c. search (needs, jacobi-answers))
     (λ c. search needs) (λ c. search needs)
-    returns-3)
+    (λ c. search (needs, jacobi-answers)))

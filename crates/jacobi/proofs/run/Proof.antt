@@ -1,14 +1,21 @@
-use Rattle.dual.specs.Rules.{dualAlgebra}
-use Rattle.jacobi.proofs.Calls.{run-by}
+-- What the sweeps start from, the sweeps and the order are the definition's own three steps.
 use borrow.Author.Needs.{needs}
+use Rattle.dual.specs.Rules.{dualAlgebra}
+use Rattle.jacobi.proofs.Ordered.{run-by}
 use Rattle.jacobi.proofs.run.Statement.{statement}
 use Rattle.jacobi.proofs.run.Tie as tie
 
+-- the sweeps keep the lengths; that n is not 0 the caller showed, too far back for a search
 sort-requires : tie.Need-sort-requires
-sort-requires c κs = let z = c .before .before .before .before .before .before .before .before .before .before .before .before .sweeps .ensures .0 in ((z .values, z .vectors), c .before .before .before .before .before .before .before .before .before .before .before .before .before .before .before .before .before .before .before .before .before .before .before .before .before .before .before .before .before .before .before .before .before .before .before .before .before .before .before .before .pre .1 .1 .1 .1 .0)
+sort-requires c κs = (search needs, c .before .before .before .before .before .before .before .before .before .before .before .before .before .before .before .before .before .before .before .before .before .before .before .before .before .before .before .before .before .before .before .before .before .before .before .before .before .before .before .before .pre .1 .1 .1 .1 .0)
 
+-- the three calls, each from what the one before left
 returns : tie.Need-returns
-returns c = run-by dualAlgebra _ _ _ _ _ _ _ _ _ _ _ (c .before .before .before .before .before .before .before .before .before .before .before .before .before .before .before .before .before .before .before .before .before .before .before .before .before .before .before .before .before .before .before .before .before .prepare .ensures .1) (c .before .before .before .before .before .before .before .before .before .before .before .before .before .before .before .before .before .sweeps .ensures .1) (c .before .before .before .before .sort .ensures)
+returns c =
+    let sorted = c .before .before .before .before in
+    let swept = sorted .before .before .before .before .before .before .before .before .before .before .before .before .before in
+    let prepared = swept .before .before .before .before .before .before .before .before .before .before .before .before .before .before .before .before in
+    run-by dualAlgebra _ _ _ _ _ _ _ _ _ _ _ (prepared .prepare .ensures .1) (swept .sweeps .ensures .1) (sorted .sort .ensures)
 
 pub run-spec : {M : Type 1} → statement M
 run-spec =

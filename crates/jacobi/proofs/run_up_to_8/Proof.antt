@@ -1,20 +1,10 @@
-use Rattle.jacobi.proofs.Calls.{scratch, scratch-fits, scratch-suits}
+-- A scratch made for n up to 8 is as long as any such n asks.
 use borrow.Author.Needs.{needs}
+use Rattle.jacobi.proofs.Scratch.{matrix-fits, matrix-scratch, row-scratch, scratch-suits}
 use Rattle.jacobi.proofs.run_up_to_8.Statement.{statement}
 use Rattle.jacobi.proofs.run_up_to_8.Tie as tie
 
-array-borrow-prefix-w : tie.Need-array-borrow-prefix-w
-array-borrow-prefix-w c = scratch-fits 8 _ (c .before .before .before .pre .1 .1 .1 .0 .1) .0
-
-slice-aggregate-run : tie.Need-slice-aggregate-run
-slice-aggregate-run c = scratch _ 128 (scratch-fits 8 _ (c .before .before .before .before .pre .1 .1 .1 .0 .1) .0)
-
-slice-aggregate-run-2 : tie.Need-slice-aggregate-run-2
-slice-aggregate-run-2 c = scratch _ 16 (scratch-fits 8 _ (c .before .before .before .before .before .pre .1 .1 .1 .0 .1) .1)
-
-slice-aggregate-run-3 : tie.Need-slice-aggregate-run-3
-slice-aggregate-run-3 c = scratch _ 16 (scratch-fits 8 _ (c .before .before .before .before .before .before .pre .1 .1 .1 .0 .1) .1)
-
+-- the parts of the scratch, and what the caller showed
 run-requires : tie.Need-run-requires
 run-requires c κs =
     let p = c .before .before .before .before .before .before .before .before .pre in
@@ -26,11 +16,11 @@ run-up-to-8-spec =
     tie.close
     (tie.spec
     (λ c. search needs) (λ c. search needs) (λ c. search needs)
-    array-borrow-prefix-w
-    slice-aggregate-run
+    (λ c. search (needs, matrix-fits 8))
+    (λ c. search (needs, matrix-scratch 8))
     (λ c. search needs)
-    slice-aggregate-run-2
+    (λ c. search (needs, row-scratch 8))
     (λ c. search needs)
-    slice-aggregate-run-3
+    (λ c. search (needs, row-scratch 8))
     run-requires
     (λ c. search needs) (λ c. search needs) (λ c. search needs))

@@ -1,44 +1,31 @@
+-- The loop keeps: what is left to put gives the whole diagonal.
 use borrow.Author.Needs.{needs}
-use Prim.Native.Nat.{_-_, _*_, _≤_}
-use mathlib.Core.Path.{_≡_, refl}
-use native.Mathlib.Omega.{arith}
-use lib.ListN.{length}
+use Prim.Native.Nat.{_-_}
 use Rattle.algebra.specs.Loop.{upto}
-use Rattle.algebra.proofs.Loop.{upto-turn, upto-end}
 use Rattle.dual.specs.Rules.{dualAlgebra}
+use Rattle.dual_cells.proofs.Cells.{dual-laws}
 use Rattle.dual_cells.specs.Records.{records}
+use Rattle.matrices.proofs.Turns.{Running, run-turn, run-end}
 use Rattle.jacobi.specs.Sweeps.{putDiagonal}
 use Rattle.jacobi.proofs.prepare.put_diagonal.Statement.{statement}
 use Rattle.jacobi.proofs.prepare.put_diagonal.Tie as tie
 
 abbrev Inv-loop : tie.InvT-loop
-Inv-loop n a d₀ i₀ d i = (i ≤ n) × ((length d ≡ n * 2) × (upto i n (putDiagonal dualAlgebra n (records a)) (records d) ≡ upto 0 n (putDiagonal dualAlgebra n (records a)) (records d₀)))
+Inv-loop n a d₀ i₀ d i = Running dual-laws (putDiagonal dualAlgebra n (records a)) n d₀ d i (upto 0 n (putDiagonal dualAlgebra n (records a)) (records d₀))
 
 abbrev μ-loop : tie.MeasureT-loop
 μ-loop n a d₀ i₀ d i = n - i
 
-loop-holds : tie.Need-loop-holds Inv-loop μ-loop
-loop-holds c = (omega arith, (search needs, refl))
-
-get-requires : tie.Need-get-requires Inv-loop μ-loop
-get-requires c κs = (search needs, (omega arith, omega arith))
-
+-- a turn writes what it read at its place of the diagonal
 loop-again : tie.Need-loop-again Inv-loop μ-loop
 unfolding putDiagonal
-loop-again c =
-    let at = c .before .before .before .before .before .before in
-    (omega arith, (omega arith, upto-turn (at .loop .i) _ _ (records (at .loop .d)) _ (c .before .before .before .before .before .loop-test .taken) (cc) (at .loop .inv .1 .1)))
-
-returns : tie.Need-returns Inv-loop μ-loop
-returns c = upto-end (c .before .loop .i) _ _ _ (c .loop-test .left) (c .before .loop .inv .1 .1)
+loop-again c = run-turn dual-laws _ _ _ _ _ _ _ (c .before .before .before .before .before .before .loop .inv) (search needs) (search needs) (cc)
 
 pub put-diagonal-spec : {M : Type 1} → statement M
 put-diagonal-spec =
     tie.close
     (tie.spec Inv-loop μ-loop
-    loop-holds
-    get-requires
-    (λ c κs. omega arith) (λ c. search needs) (λ c. search needs)
+    (λ c. search needs) (λ c κs. search needs) (λ c κs. search needs) (λ c. search needs) (λ c. search needs)
     loop-again
-    (λ c. omega arith)
-    returns)
+    (λ c. search needs)
+    (λ c. search (needs, run-end dual-laws)))

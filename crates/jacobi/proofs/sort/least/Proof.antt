@@ -1,7 +1,7 @@
+-- The loop keeps: what is left to compare gives the least.
 use borrow.Author.Needs.{needs}
-use Prim.Native.Nat.{_-_, _≤_, _<_}
-use mathlib.Core.Path.{_≡_, refl}
-use native.Mathlib.Omega.{arith}
+use Prim.Native.Nat.{_-_, _<_}
+use mathlib.Core.Path.{_≡_}
 use Rattle.algebra.specs.Loop.{upto}
 use Rattle.algebra.proofs.Loop.{upto-turn, upto-end}
 use Rattle.dual.specs.Rules.{dualAlgebra}
@@ -11,25 +11,15 @@ use Rattle.jacobi.proofs.sort.least.Statement.{statement}
 use Rattle.jacobi.proofs.sort.least.Tie as tie
 
 abbrev Inv-loop : tie.InvT-loop
-Inv-loop n d k m₀ l₀ m l = (m < n) × ((l ≤ n) × (upto l n (smaller dualAlgebra n (records d)) m ≡ least dualAlgebra n (records d) k))
+Inv-loop n d k m₀ l₀ m l = (m < n) × (upto l n (smaller dualAlgebra n (records d)) m ≡ least dualAlgebra n (records d) k)
 
 abbrev μ-loop : tie.MeasureT-loop
 μ-loop n d k m₀ l₀ m l = n - l
 
+-- before the first turn the whole is left to compare
 loop-holds : tie.Need-loop-holds Inv-loop μ-loop
 unfolding least
-loop-holds c = (omega arith, (omega arith, refl))
-
-smaller-requires : tie.Need-smaller-requires Inv-loop μ-loop
-smaller-requires c κs = (search needs, (omega arith, omega arith))
-
-loop-again : tie.Need-loop-again Inv-loop μ-loop
-loop-again c =
-    let at = c .before .before in
-    (c .smaller .ensures .1, (omega arith, upto-turn (at .loop .l) _ _ (at .loop .m) _ (c .before .loop-test .taken) (c .smaller .ensures .0) (at .loop .inv .1 .1)))
-
-returns : tie.Need-returns Inv-loop μ-loop
-returns c = (upto-end (c .before .loop .l) _ _ _ (c .loop-test .left) (c .before .loop .inv .1 .1), c .before .loop .inv .0)
+loop-holds c = search needs
 
 pub least-spec : {M : Type 1} → statement M
 least-spec =
@@ -37,7 +27,6 @@ least-spec =
     (tie.spec Inv-loop μ-loop
     (λ c. search needs)
     loop-holds
-    smaller-requires
-    (λ c. search needs) (λ c. search needs)
-    loop-again
-    returns)
+    (λ c κs. search needs) (λ c. search needs) (λ c. search needs)
+    (λ c. search (needs, upto-turn))
+    (λ c. search (needs, upto-end)))
