@@ -10,9 +10,8 @@ use Rattle.refusals.specs.Largest as largest
 use Rattle.refusals.specs.Number as refusal
 use Rattle.algebra.specs.Outcome.{value}
 use Rattle.algebra.proofs.Cells.{parts-of}
-use Rattle.dual.specs.Rules.{dualAlgebra, dualLayout}
-use Rattle.dual_cells.proofs.Cells.{dual-laws}
-use Rattle.dual_cells.specs.Records.{records}
+use Rattle.dual.specs.Rules.{dualAlgebra, dualLayout, dualRecords}
+use Rattle.dual.proofs.Flat.{dual-laws}
 use Rattle.matrices.specs.Matrix.{Square}
 use Rattle.jacobi.specs.Entry.{jacobiRefusal, jacobiAnswered, jacobiDone, jacobiLeft}
 use Rattle.jacobi.specs.Sort.{eigen, jacobiOf}
@@ -62,9 +61,9 @@ module _ (n : ℕ) (a : List Float) (limit : ℕ) (d v : List Float) (k : ℕ) (
 
   -- and what it leaves, once it is done
   pub jacobi-answers : (d′ v′ : List Float) (sweeps rotations : ℕ) (stopped : Bool) → length d′ ≡ length d → length v′ ≡ length v
-      → eigen (records d′) (records v′) sweeps rotations stopped ≡ jacobiOf dualAlgebra n limit (records a) → jacobiAnswered (value sweeps) d′ v′ ≡ jacobiLeft dualAlgebra dualLayout n a limit d v
+      → eigen (dualRecords d′) (dualRecords v′) sweeps rotations stopped ≡ jacobiOf dualAlgebra n limit (dualRecords a) → jacobiAnswered (value sweeps) d′ v′ ≡ jacobiLeft dualAlgebra dualLayout n a limit d v
   jacobi-answers d′ v′ sweeps rotations stopped hd hv r =
       let f = jacobi-fits 2 n (length a) limit (length d) (length v) (sym e ∙ z) in
-      (λ i. jacobiAnswered (value sweeps) (parts-of dual-laws d′ n (records d′) (hd ∙ f .values) refl i) (parts-of dual-laws v′ (n * n) (records v′) (hv ∙ f .vectors) refl i))
+      (λ i. jacobiAnswered (value sweeps) (parts-of dual-laws d′ n (dualRecords d′) (hd ∙ f .values) refl i) (parts-of dual-laws v′ (n * n) (dualRecords v′) (hv ∙ f .vectors) refl i))
       ∙ ap (jacobiDone dualAlgebra dualLayout n) r
       ∙ jacobi-done dualAlgebra dualLayout n a limit d v (sym e ∙ z)

@@ -9,9 +9,8 @@ use borrow.Author.Tests.{eq-eqb, ne-eqb}
 use Rattle.algebra.specs.Algebra.{Algebra, zeroOf}
 use Rattle.algebra.specs.Loop.{upto}
 use Rattle.algebra.proofs.Loop.{upto-turn, upto-end}
-use Rattle.dual.specs.Rules.{dualAlgebra}
+use Rattle.dual.specs.Rules.{dualAlgebra, dualRecords}
 use Rattle.dual.specs.declared.Dual.{Dual}
-use Rattle.dual_cells.specs.Records.{records}
 use Rattle.matrices.specs.Matrix.{Square, exchange}
 use Rattle.rotations.specs.Rotation.{item}
 use Rattle.jacobi.specs.Sort.{Pairs, pairs, eigen, ended, smaller, least, exchangeColumns, bringSmallest, select, sort, ordered, jacobiOf}
@@ -58,11 +57,11 @@ pub record Sorting (n last : ℕ) (whole : Pairs Dual) (d v : List Float) (k : �
   pub inside : last < n
   pub values : length d ≡ n * 2
   pub square : Square 2 n v
-  pub rest : upto k last (select dualAlgebra n) (pairs (records d) (records v)) ≡ whole
+  pub rest : upto k last (select dualAlgebra n) (pairs (dualRecords d) (dualRecords v)) ≡ whole
 
 module _ (n last : ℕ) (whole : Pairs Dual) (d v : List Float) (k : ℕ) (s : Sorting n last whole d v k) where
-  pub sort-turn : (d′ v′ : List Float) → k < last → length d′ ≡ length d → Square 2 n v′ → pairs (records d′) (records v′) ≡ select dualAlgebra n k (pairs (records d) (records v)) → Sorting n last whole d′ v′ (k + 1)
-  sort-turn d′ v′ h l q e = record { inside = s .inside; values = l ∙ s .values; square = q; rest = upto-turn k last (select dualAlgebra n) (pairs (records d) (records v)) (pairs (records d′) (records v′)) h e (s .rest) }
+  pub sort-turn : (d′ v′ : List Float) → k < last → length d′ ≡ length d → Square 2 n v′ → pairs (dualRecords d′) (dualRecords v′) ≡ select dualAlgebra n k (pairs (dualRecords d) (dualRecords v)) → Sorting n last whole d′ v′ (k + 1)
+  sort-turn d′ v′ h l q e = record { inside = s .inside; values = l ∙ s .values; square = q; rest = upto-turn k last (select dualAlgebra n) (pairs (dualRecords d) (dualRecords v)) (pairs (dualRecords d′) (dualRecords v′)) h e (s .rest) }
 
-  pub sort-end : last ≤ k → pairs (records d) (records v) ≡ whole
-  sort-end h = upto-end k last (select dualAlgebra n) (pairs (records d) (records v)) h (s .rest)
+  pub sort-end : last ≤ k → pairs (dualRecords d) (dualRecords v) ≡ whole
+  sort-end h = upto-end k last (select dualAlgebra n) (pairs (dualRecords d) (dualRecords v)) h (s .rest)

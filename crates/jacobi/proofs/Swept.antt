@@ -17,8 +17,7 @@ use Rattle.algebra.specs.Algebra.{Algebra, zeroOf}
 use Rattle.algebra.specs.Loop.{upto}
 use Rattle.algebra.proofs.Loop.{upto-keep, upto-step, upto-turn, upto-end}
 use Rattle.dual.specs.declared.Dual.{Dual}
-use Rattle.dual.specs.Rules.{dualAlgebra}
-use Rattle.dual_cells.specs.Records.{records}
+use Rattle.dual.specs.Rules.{dualAlgebra, dualRecords}
 use Rattle.matrices.specs.Matrix.{cell}
 use Rattle.rotations.specs.Buffers.{Sized, workOf}
 use Rattle.rotations.specs.Rotation.{Work, work}
@@ -124,14 +123,14 @@ module _ (n limit : ℕ) (whole : Run Dual) (a v d zw bw : List Float) (rotation
           (sym (ap (λ (t : AfterSweep). runAfter t a′ v′ d′ zw′ bw′ rotations it-num) g) ∙ e) (w .rest);
     }
 
-    pub sweeps-stop : s ≡ Stopped → eigen (records d′) (records v′) it-num rotations true ≡ ended whole
+    pub sweeps-stop : s ≡ Stopped → eigen (dualRecords d′) (dualRecords v′) it-num rotations true ≡ ended whole
     sweeps-stop g =
         ap ended (run-settles dualAlgebra n it-num limit (runOf a v d zw bw rotations it-num) whole (workOf a′ v′ d′ zw′ rotations) it-num h
         (sym (ap (λ (t : AfterSweep). runAfter t a′ v′ d′ zw′ bw′ rotations it-num) g) ∙ e) (w .rest))
 
-  pub sweeps-end : limit ≤ it-num → eigen (records d) (records v) limit rotations false ≡ ended whole
+  pub sweeps-end : limit ≤ it-num → eigen (dualRecords d) (dualRecords v) limit rotations false ≡ ended whole
   sweeps-end h =
-      ap (λ (k : ℕ). eigen (records d) (records v) k rotations false) (let m = w .within in omega arith)
+      ap (λ (k : ℕ). eigen (dualRecords d) (dualRecords v) k rotations false) (let m = w .within in omega arith)
       ∙ ap ended (upto-end it-num limit (step dualAlgebra n) (runOf a v d zw bw rotations it-num) h (w .rest))
 
   -- the rotations so far

@@ -4,7 +4,7 @@ use mathlib.Core.List.{List}
 use lib.Ieee.{Float}
 use Rattle.algebra.specs.Outcome.{Outcome, value, refused}
 use Rattle.dual.specs.declared.Dual.{Dual}
-use Rattle.dual_cells.specs.Records.{records}
+use Rattle.dual.specs.Rules.{dualRecords}
 use Rattle.rotations.specs.Buffers.{workOf}
 use Rattle.jacobi.specs.declared.JacobiAnswer.{JacobiAnswer}
 use Rattle.jacobi.specs.declared.JacobiAnswer.the-variants.{Done, Refused}
@@ -19,7 +19,7 @@ outcome (Refused number) = refused number
 
 -- a run in its buffers, after so many sweeps
 abbrev pub runOf : List Float → List Float → List Float → List Float → List Float → ℕ → ℕ → Run Dual
-runOf a v d zw bw rotations sweeps = going (workOf a v d zw rotations) (records bw) sweeps
+runOf a v d zw bw rotations sweeps = going (workOf a v d zw rotations) (dualRecords bw) sweeps
 
 -- the run after sweep it_num, which came with so many rotations, with the buffers as they then are
 abbrev pub runAfter : AfterSweep → List Float → List Float → List Float → List Float → List Float → ℕ → ℕ → Run Dual

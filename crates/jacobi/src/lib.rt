@@ -8,8 +8,7 @@ ghost use Prim.Native.Nat.{_*_, _<_, _≤_};
 ghost use lib.ListN.{length};
 ghost use Rattle.refusals.specs.Largest as largest;
 ghost use Rattle.algebra.specs.Outcome.{numberOf};
-ghost use Rattle.dual.specs.Rules.{dualAlgebra, dualLayout};
-ghost use Rattle.dual_cells.specs.Records.{records};
+ghost use Rattle.dual.specs.Rules.{dualAlgebra, dualLayout, dualRecords};
 ghost use Rattle.matrices.specs.Matrix.{Square};
 ghost use Rattle.jacobi.specs.Sort.{eigen, jacobiOf};
 ghost use Rattle.jacobi.specs.Entry.{jacobiRefusal, jacobiAnswered, jacobiLeft};
@@ -88,7 +87,7 @@ fn run(
     requires { ⌜ (length (now bw) ≡ n * 2) × (length (now zw) ≡ n * 2) ⌝ }
     requires { ⌜ length (now values) ≡ n * 2 ⌝ }
     requires { ⌜ (0 < n) × (limit ≤ largest.limit) ⌝ }
-    ensures { λ r. ⌜ eigen (records (now (values .exit))) (records (now (vectors .exit))) (r .sweeps) (r .rotations) (r .stopped) ≡ jacobiOf dualAlgebra n limit (records (now (a .entry))) ⌝ }
+    ensures { λ r. ⌜ eigen (dualRecords (now (values .exit))) (dualRecords (now (vectors .exit))) (r .sweeps) (r .rotations) (r .stopped) ≡ jacobiOf dualAlgebra n limit (dualRecords (now (a .entry))) ⌝ }
 {
     prepare::prepare(n, a, w, bw, zw, values, vectors);
     let e = sweeps::sweeps(n, w, vectors, values, zw, bw, limit);
@@ -103,7 +102,7 @@ fn run_up_to_8(n: usize, a: &[f64], limit: usize, values: &mut [f64], vectors: &
     requires { ⌜ length (now values) ≡ n * 2 ⌝ }
     requires { ⌜ (0 < n) × (n ≤ 8) ⌝ }
     requires { ⌜ limit ≤ largest.limit ⌝ }
-    ensures { λ r. ⌜ eigen (records (now (values .exit))) (records (now (vectors .exit))) (r .sweeps) (r .rotations) (r .stopped) ≡ jacobiOf dualAlgebra n limit (records (now (a .entry))) ⌝ }
+    ensures { λ r. ⌜ eigen (dualRecords (now (values .exit))) (dualRecords (now (vectors .exit))) (r .sweeps) (r .rotations) (r .stopped) ≡ jacobiOf dualAlgebra n limit (dualRecords (now (a .entry))) ⌝ }
 {
     let full = n * n * 2;
     let row = n * 2;
@@ -129,7 +128,7 @@ fn run_up_to_32(n: usize, a: &[f64], limit: usize, values: &mut [f64], vectors: 
     requires { ⌜ length (now values) ≡ n * 2 ⌝ }
     requires { ⌜ (0 < n) × (n ≤ largest.n) ⌝ }
     requires { ⌜ limit ≤ largest.limit ⌝ }
-    ensures { λ r. ⌜ eigen (records (now (values .exit))) (records (now (vectors .exit))) (r .sweeps) (r .rotations) (r .stopped) ≡ jacobiOf dualAlgebra n limit (records (now (a .entry))) ⌝ }
+    ensures { λ r. ⌜ eigen (dualRecords (now (values .exit))) (dualRecords (now (vectors .exit))) (r .sweeps) (r .rotations) (r .stopped) ≡ jacobiOf dualAlgebra n limit (dualRecords (now (a .entry))) ⌝ }
 {
     let full = n * n * 2;
     let row = n * 2;

@@ -1,15 +1,14 @@
 // What a run starts from.
 use dual::Dual;
-use dual_cells::get;
-use dual_cells::put;
-use dual_cells::write;
+use dual::write;
+use rotations::cells::get;
+use rotations::cells::put;
 ghost use mathlib.Core.Path.{_≡_};
 ghost use Prim.Native.Nat.{_*_};
 ghost use lib.ListN.{length, replicate};
 ghost use Rattle.algebra.specs.Algebra.{zeroOf};
 ghost use Rattle.algebra.specs.Loop.{upto};
-ghost use Rattle.dual.specs.Rules.{dualAlgebra};
-ghost use Rattle.dual_cells.specs.Records.{records};
+ghost use Rattle.dual.specs.Rules.{dualAlgebra, dualRecords};
 ghost use Rattle.matrices.specs.Matrix.{Square};
 ghost use Rattle.rotations.specs.Buffers.{Sized};
 ghost use Rattle.jacobi.specs.Sweeps.{identity, diagonal, start, putOne, putDiagonal};
@@ -19,7 +18,7 @@ ghost use Rattle.jacobi.specs.Answer.{runOf};
 fn put_ones(n: usize, v: &mut [f64])
     requires { ⌜ Square 2 n (now v) ⌝ }
     ensures { λ _. ⌜ Square 2 n (now (v .exit)) ⌝ }
-    ensures { λ _. ⌜ records (now (v .exit)) ≡ upto 0 n (putOne dualAlgebra n) (records (now (v .entry))) ⌝ }
+    ensures { λ _. ⌜ dualRecords (now (v .exit)) ≡ upto 0 n (putOne dualAlgebra n) (dualRecords (now (v .entry))) ⌝ }
 {
     for i in 0..n {
         put(n, v, i, i, Dual::ONE);
@@ -30,7 +29,7 @@ fn put_ones(n: usize, v: &mut [f64])
 fn identity(n: usize, v: &mut [f64])
     requires { ⌜ Square 2 n (now v) ⌝ }
     ensures { λ _. ⌜ Square 2 n (now (v .exit)) ⌝ }
-    ensures { λ _. ⌜ records (now (v .exit)) ≡ Rattle.jacobi.specs.Sweeps.identity dualAlgebra n ⌝ }
+    ensures { λ _. ⌜ dualRecords (now (v .exit)) ≡ Rattle.jacobi.specs.Sweeps.identity dualAlgebra n ⌝ }
 {
     floats::clear(v);
     put_ones(n, v);
@@ -40,7 +39,7 @@ fn identity(n: usize, v: &mut [f64])
 fn put_diagonal(n: usize, a: &[f64], d: &mut [f64])
     requires { ⌜ Square 2 n (now a) ⌝ }
     requires { ⌜ length (now d) ≡ n * 2 ⌝ }
-    ensures { λ _. ⌜ records (now (d .exit)) ≡ upto 0 n (putDiagonal dualAlgebra n (records (now (a .entry)))) (records (now (d .entry))) ⌝ }
+    ensures { λ _. ⌜ dualRecords (now (d .exit)) ≡ upto 0 n (putDiagonal dualAlgebra n (dualRecords (now (a .entry)))) (dualRecords (now (d .entry))) ⌝ }
 {
     for i in 0..n {
         write(d, i, get(n, a, i, i));
@@ -52,9 +51,9 @@ fn start_sums(n: usize, a: &[f64], d: &mut [f64], bw: &mut [f64], zw: &mut [f64]
     requires { ⌜ Square 2 n (now a) ⌝ }
     requires { ⌜ length (now d) ≡ n * 2 ⌝ }
     requires { ⌜ (length (now bw) ≡ n * 2) × (length (now zw) ≡ n * 2) ⌝ }
-    ensures { λ _. ⌜ records (now (d .exit)) ≡ diagonal dualAlgebra n (records (now (a .entry))) ⌝ }
-    ensures { λ _. ⌜ records (now (bw .exit)) ≡ diagonal dualAlgebra n (records (now (a .entry))) ⌝ }
-    ensures { λ _. ⌜ records (now (zw .exit)) ≡ replicate n (zeroOf dualAlgebra) ⌝ }
+    ensures { λ _. ⌜ dualRecords (now (d .exit)) ≡ diagonal dualAlgebra n (dualRecords (now (a .entry))) ⌝ }
+    ensures { λ _. ⌜ dualRecords (now (bw .exit)) ≡ diagonal dualAlgebra n (dualRecords (now (a .entry))) ⌝ }
+    ensures { λ _. ⌜ dualRecords (now (zw .exit)) ≡ replicate n (zeroOf dualAlgebra) ⌝ }
 {
     floats::clear(d);
     put_diagonal(n, a, d);
@@ -76,7 +75,7 @@ pub(crate) fn prepare(
     requires { ⌜ Sized n (now w) (now v) (now d) (now zw) ⌝ }
     requires { ⌜ length (now bw) ≡ n * 2 ⌝ }
     ensures { λ _. ⌜ Sized n (now (w .exit)) (now (v .exit)) (now (d .exit)) (now (zw .exit)) ⌝ }
-    ensures { λ _. ⌜ runOf (now (w .exit)) (now (v .exit)) (now (d .exit)) (now (zw .exit)) (now (bw .exit)) 0 0 ≡ start dualAlgebra n (records (now (a .entry))) ⌝ }
+    ensures { λ _. ⌜ runOf (now (w .exit)) (now (v .exit)) (now (d .exit)) (now (zw .exit)) (now (bw .exit)) 0 0 ≡ start dualAlgebra n (dualRecords (now (a .entry))) ⌝ }
 {
     floats::copy(a, w);
     identity(n, v);

@@ -1,11 +1,10 @@
 // The values in order of their real parts, their vectors' columns with them.
-use dual_cells::exchange;
-use dual_cells::read;
+use dual::read;
+use rotations::cells::exchange;
 ghost use mathlib.Core.Path.{_≡_};
 ghost use Prim.Native.Nat.{_+_, _*_, _<_};
 ghost use lib.ListN.{length};
-ghost use Rattle.dual.specs.Rules.{dualAlgebra};
-ghost use Rattle.dual_cells.specs.Records.{records};
+ghost use Rattle.dual.specs.Rules.{dualAlgebra, dualRecords};
 ghost use Rattle.matrices.specs.Matrix.{Square};
 ghost use Rattle.jacobi.specs.Sort as rule;
 ghost use Rattle.jacobi.specs.Sort.{pairs};
@@ -14,7 +13,7 @@ ghost use Rattle.jacobi.specs.Sort.{pairs};
 fn smaller(n: usize, d: &[f64], l: usize, m: usize) -> usize
     requires { ⌜ length (now d) ≡ n * 2 ⌝ }
     requires { ⌜ (l < n) × (m < n) ⌝ }
-    ensures { λ r. ⌜ r ≡ rule.smaller dualAlgebra n (records (now (d .entry))) l m ⌝ }
+    ensures { λ r. ⌜ r ≡ rule.smaller dualAlgebra n (dualRecords (now (d .entry))) l m ⌝ }
     ensures { λ r. ⌜ r < n ⌝ }
 {
     let x = read(d, l);
@@ -29,7 +28,7 @@ fn smaller(n: usize, d: &[f64], l: usize, m: usize) -> usize
 fn least(n: usize, d: &[f64], k: usize) -> usize
     requires { ⌜ length (now d) ≡ n * 2 ⌝ }
     requires { ⌜ k < n ⌝ }
-    ensures { λ r. ⌜ r ≡ rule.least dualAlgebra n (records (now (d .entry))) k ⌝ }
+    ensures { λ r. ⌜ r ≡ rule.least dualAlgebra n (dualRecords (now (d .entry))) k ⌝ }
     ensures { λ r. ⌜ r < n ⌝ }
 {
     let mut m = k;
@@ -44,7 +43,7 @@ fn exchange_columns(n: usize, v: &mut [f64], m: usize, k: usize)
     requires { ⌜ Square 2 n (now v) ⌝ }
     requires { ⌜ (m < n) × (k < n) ⌝ }
     ensures { λ _. ⌜ Square 2 n (now (v .exit)) ⌝ }
-    ensures { λ _. ⌜ records (now (v .exit)) ≡ rule.exchangeColumns dualAlgebra n m k (records (now (v .entry))) ⌝ }
+    ensures { λ _. ⌜ dualRecords (now (v .exit)) ≡ rule.exchangeColumns dualAlgebra n m k (dualRecords (now (v .entry))) ⌝ }
 {
     for l in 0..n {
         exchange(v, l * n + m, l * n + k);
@@ -56,7 +55,7 @@ fn select(n: usize, d: &mut [f64], v: &mut [f64], k: usize)
     requires { ⌜ (length (now d) ≡ n * 2) × Square 2 n (now v) ⌝ }
     requires { ⌜ k < n ⌝ }
     ensures { λ _. ⌜ Square 2 n (now (v .exit)) ⌝ }
-    ensures { λ _. ⌜ pairs (records (now (d .exit))) (records (now (v .exit))) ≡ rule.select dualAlgebra n k (pairs (records (now (d .entry))) (records (now (v .entry)))) ⌝ }
+    ensures { λ _. ⌜ pairs (dualRecords (now (d .exit))) (dualRecords (now (v .exit))) ≡ rule.select dualAlgebra n k (pairs (dualRecords (now (d .entry))) (dualRecords (now (v .entry)))) ⌝ }
 {
     let m = least(n, d, k);
     if m == k {
@@ -70,7 +69,7 @@ fn select(n: usize, d: &mut [f64], v: &mut [f64], k: usize)
 pub(crate) fn sort(n: usize, d: &mut [f64], v: &mut [f64])
     requires { ⌜ (length (now d) ≡ n * 2) × Square 2 n (now v) ⌝ }
     requires { ⌜ 0 < n ⌝ }
-    ensures { λ _. ⌜ pairs (records (now (d .exit))) (records (now (v .exit))) ≡ rule.sort dualAlgebra n (pairs (records (now (d .entry))) (records (now (v .entry)))) ⌝ }
+    ensures { λ _. ⌜ pairs (dualRecords (now (d .exit))) (dualRecords (now (v .exit))) ≡ rule.sort dualAlgebra n (pairs (dualRecords (now (d .entry))) (dualRecords (now (v .entry)))) ⌝ }
 {
     for k in 0..n - 1 {
         select(n, d, v, k);

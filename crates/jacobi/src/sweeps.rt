@@ -1,9 +1,9 @@
 // The sweeps of a run.
 use super::AfterSweep;
 use super::Ended;
-use dual_cells::get;
-use dual_cells::read;
-use dual_cells::write;
+use dual::read;
+use dual::write;
+use rotations::cells::get;
 use rotations::pair;
 ghost use mathlib.Core.Path.{_≡_};
 ghost use mathlib.Core.Bool.{true, false};
@@ -12,8 +12,7 @@ ghost use lib.ListN.{length, replicate};
 ghost use Rattle.refusals.specs.Largest as largest;
 ghost use Rattle.algebra.specs.Algebra.{zeroOf};
 ghost use Rattle.algebra.specs.Loop.{upto};
-ghost use Rattle.dual.specs.Rules.{dualAlgebra};
-ghost use Rattle.dual_cells.specs.Records.{records};
+ghost use Rattle.dual.specs.Rules.{dualAlgebra, dualRecords};
 ghost use Rattle.matrices.specs.Matrix.{Square};
 ghost use Rattle.rotations.specs.Buffers.{Sized, workOf};
 ghost use Rattle.jacobi.specs.Sweeps as rule;
@@ -24,7 +23,7 @@ ghost use Rattle.jacobi.specs.Answer.{runOf, runAfter, rotationsOf};
 fn column_squares(n: usize, a: &[f64], j: usize, thresh: f64) -> f64
     requires { ⌜ Square 2 n (now a) ⌝ }
     requires { ⌜ j < n ⌝ }
-    ensures { λ r. ⌜ r ≡ rule.columnSquares dualAlgebra n (records (now (a .entry))) j thresh ⌝ }
+    ensures { λ r. ⌜ r ≡ rule.columnSquares dualAlgebra n (dualRecords (now (a .entry))) j thresh ⌝ }
 {
     let mut sum = thresh;
     for i in 0..j {
@@ -37,7 +36,7 @@ fn column_squares(n: usize, a: &[f64], j: usize, thresh: f64) -> f64
 // The squares above the diagonal, column by column.
 fn sum_of_squares(n: usize, a: &[f64]) -> f64
     requires { ⌜ Square 2 n (now a) ⌝ }
-    ensures { λ r. ⌜ r ≡ rule.sumOfSquares dualAlgebra n (records (now (a .entry))) ⌝ }
+    ensures { λ r. ⌜ r ≡ rule.sumOfSquares dualAlgebra n (dualRecords (now (a .entry))) ⌝ }
 {
     let mut sum = 0.0;
     for j in 0..n {
@@ -49,7 +48,7 @@ fn sum_of_squares(n: usize, a: &[f64]) -> f64
 // The root of the sum of squares over n.
 fn threshold(n: usize, a: &[f64]) -> f64
     requires { ⌜ Square 2 n (now a) ⌝ }
-    ensures { λ r. ⌜ r ≡ rule.thresholdOf dualAlgebra n (records (now (a .entry))) ⌝ }
+    ensures { λ r. ⌜ r ≡ rule.thresholdOf dualAlgebra n (dualRecords (now (a .entry))) ⌝ }
 {
     real::sqrt(sum_of_squares(n, a)) / n as f64
 }
@@ -109,7 +108,7 @@ fn sweep(
 // bw += zw
 fn add_all(n: usize, zw: &[f64], bw: &mut [f64])
     requires { ⌜ (length (now zw) ≡ n * 2) × (length (now bw) ≡ n * 2) ⌝ }
-    ensures { λ _. ⌜ records (now (bw .exit)) ≡ rule.addAll dualAlgebra n (records (now (zw .entry))) (records (now (bw .entry))) ⌝ }
+    ensures { λ _. ⌜ dualRecords (now (bw .exit)) ≡ rule.addAll dualAlgebra n (dualRecords (now (zw .entry))) (dualRecords (now (bw .entry))) ⌝ }
 {
     for i in 0..n {
         let x = read(bw, i);
@@ -122,9 +121,9 @@ fn add_all(n: usize, zw: &[f64], bw: &mut [f64])
 fn close_sweep(n: usize, d: &mut [f64], zw: &mut [f64], bw: &mut [f64])
     requires { ⌜ (length (now zw) ≡ n * 2) × (length (now bw) ≡ n * 2) ⌝ }
     requires { ⌜ length (now d) ≡ n * 2 ⌝ }
-    ensures { λ _. ⌜ records (now (bw .exit)) ≡ rule.addAll dualAlgebra n (records (now (zw .entry))) (records (now (bw .entry))) ⌝ }
-    ensures { λ _. ⌜ records (now (d .exit)) ≡ rule.addAll dualAlgebra n (records (now (zw .entry))) (records (now (bw .entry))) ⌝ }
-    ensures { λ _. ⌜ records (now (zw .exit)) ≡ replicate n (zeroOf dualAlgebra) ⌝ }
+    ensures { λ _. ⌜ dualRecords (now (bw .exit)) ≡ rule.addAll dualAlgebra n (dualRecords (now (zw .entry))) (dualRecords (now (bw .entry))) ⌝ }
+    ensures { λ _. ⌜ dualRecords (now (d .exit)) ≡ rule.addAll dualAlgebra n (dualRecords (now (zw .entry))) (dualRecords (now (bw .entry))) ⌝ }
+    ensures { λ _. ⌜ dualRecords (now (zw .exit)) ≡ replicate n (zeroOf dualAlgebra) ⌝ }
 {
     add_all(n, zw, bw);
     floats::copy(bw, d);
@@ -173,7 +172,7 @@ pub(crate) fn sweeps(
     requires { ⌜ length (now bw) ≡ n * 2 ⌝ }
     requires { ⌜ limit ≤ largest.limit ⌝ }
     ensures { λ _. ⌜ Sized n (now (a .exit)) (now (v .exit)) (now (d .exit)) (now (zw .exit)) ⌝ }
-    ensures { λ r. ⌜ eigen (records (now (d .exit))) (records (now (v .exit))) (r .sweeps) (r .rotations) (r .stopped)
+    ensures { λ r. ⌜ eigen (dualRecords (now (d .exit))) (dualRecords (now (v .exit))) (r .sweeps) (r .rotations) (r .stopped)
         ≡ ended (upto 0 limit (rule.step dualAlgebra n) (runOf (now (a .entry)) (now (v .entry)) (now (d .entry)) (now (zw .entry)) (now (bw .entry)) 0 0)) ⌝ }
 {
     let mut rotations = 0;

@@ -1,16 +1,16 @@
--- The records that the lent floats of a sweep hold. Definitions only.
+-- The dualRecords that the lent floats of a sweep hold. Definitions only.
 use Prim.Native.Nat.{ℕ, _*_}
 use mathlib.Core.Path.{_≡_}
 use mathlib.Core.List.{List}
 use lib.ListN.{length}
 use lib.Ieee.{Float}
 use Rattle.dual.specs.declared.Dual.{Dual}
-use Rattle.dual_cells.specs.Records.{records}
+use Rattle.dual.specs.Rules.{dualRecords}
 use Rattle.matrices.specs.Matrix.{Square}
 use Rattle.rotations.specs.declared.Angle as code
 use Rattle.rotations.specs.Rotation.{Angle, angle, Work, work}
 
--- the four buffers of a sweep are as long as n by n and n records ask
+-- the four buffers of a sweep are as long as n by n and n dualRecords ask
 pub record Sized (n : ℕ) (a v d zw : List Float) : Type 0 where
   pub matrix : Square 2 n a
   pub vectors : Square 2 n v
@@ -19,7 +19,7 @@ pub record Sized (n : ℕ) (a v d zw : List Float) : Type 0 where
 
 -- what a sweep works on, in four buffers
 abbrev pub workOf : List Float → List Float → List Float → List Float → ℕ → Work Dual
-workOf a v d zw rotations = work (records a) (records v) (records d) (records zw) rotations
+workOf a v d zw rotations = work (dualRecords a) (dualRecords v) (dualRecords d) (dualRecords zw) rotations
 
 -- the parts of an angle
 abbrev pub angleParts : code.Angle → Angle Dual

@@ -1,11 +1,11 @@
 // One entry above the diagonal, by what is chosen for it.
 use super::Choice;
+use super::cells::get;
+use super::cells::put;
 use super::choose;
 use super::turn;
 use dual::Dual;
-use dual_cells::get;
-use dual_cells::put;
-use dual_cells::read;
+use dual::read;
 ghost use mathlib.Core.Path.{_≡_};
 ghost use Prim.Native.Nat.{_+_, _<_, _≤_};
 ghost use Rattle.dual.specs.Rules.{dualAlgebra};

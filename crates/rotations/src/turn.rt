@@ -1,14 +1,13 @@
 // The loops of a rotation.
+use super::cells::get;
+use super::cells::put;
 use dual::Dual;
-use dual_cells::get;
-use dual_cells::put;
-use dual_cells::read;
-use dual_cells::write;
+use dual::read;
+use dual::write;
 ghost use mathlib.Core.Path.{_≡_};
 ghost use Prim.Native.Nat.{_+_, _*_, _<_, _≤_};
 ghost use lib.ListN.{length};
-ghost use Rattle.dual.specs.Rules.{dualAlgebra};
-ghost use Rattle.dual_cells.specs.Records.{records};
+ghost use Rattle.dual.specs.Rules.{dualAlgebra, dualRecords};
 ghost use Rattle.matrices.specs.Matrix.{Square};
 ghost use Rattle.rotations.specs.Rotation.{turnedFirst, turnedSecond, turn, turnColumns, turnBetween, turnRows, turnAbove, shift};
 
@@ -32,7 +31,7 @@ fn turn(n: usize, a: &mut [f64], s: Dual, tau: Dual, r: usize, c: usize, u: usiz
     requires { ⌜ (r < n) × (c < n) ⌝ }
     requires { ⌜ (u < n) × (w < n) ⌝ }
     ensures { λ _. ⌜ Square 2 n (now (a .exit)) ⌝ }
-    ensures { λ _. ⌜ records (now (a .exit)) ≡ Rattle.rotations.specs.Rotation.turn dualAlgebra n s tau r c u w (records (now (a .entry))) ⌝ }
+    ensures { λ _. ⌜ dualRecords (now (a .exit)) ≡ Rattle.rotations.specs.Rotation.turn dualAlgebra n s tau r c u w (dualRecords (now (a .entry))) ⌝ }
 {
     let g = get(n, a, r, c);
     let h = get(n, a, u, w);
@@ -54,7 +53,7 @@ pub(crate) fn turn_columns(
     requires { ⌜ (p < n) × (q < n) ⌝ }
     requires { ⌜ rows ≤ n ⌝ }
     ensures { λ _. ⌜ Square 2 n (now (a .exit)) ⌝ }
-    ensures { λ _. ⌜ records (now (a .exit)) ≡ turnColumns dualAlgebra n s tau p q rows (records (now (a .entry))) ⌝ }
+    ensures { λ _. ⌜ dualRecords (now (a .exit)) ≡ turnColumns dualAlgebra n s tau p q rows (dualRecords (now (a .entry))) ⌝ }
 {
     for j in 0..rows {
         turn(n, a, s, tau, j, p, j, q);
@@ -66,7 +65,7 @@ fn turn_between(n: usize, a: &mut [f64], s: Dual, tau: Dual, p: usize, q: usize)
     requires { ⌜ Square 2 n (now a) ⌝ }
     requires { ⌜ (p < q) × (q < n) ⌝ }
     ensures { λ _. ⌜ Square 2 n (now (a .exit)) ⌝ }
-    ensures { λ _. ⌜ records (now (a .exit)) ≡ turnBetween dualAlgebra n s tau p q (records (now (a .entry))) ⌝ }
+    ensures { λ _. ⌜ dualRecords (now (a .exit)) ≡ turnBetween dualAlgebra n s tau p q (dualRecords (now (a .entry))) ⌝ }
 {
     for j in p + 1..q {
         turn(n, a, s, tau, p, j, j, q);
@@ -78,7 +77,7 @@ fn turn_rows(n: usize, a: &mut [f64], s: Dual, tau: Dual, p: usize, q: usize)
     requires { ⌜ Square 2 n (now a) ⌝ }
     requires { ⌜ (p < q) × (q < n) ⌝ }
     ensures { λ _. ⌜ Square 2 n (now (a .exit)) ⌝ }
-    ensures { λ _. ⌜ records (now (a .exit)) ≡ turnRows dualAlgebra n s tau p q (records (now (a .entry))) ⌝ }
+    ensures { λ _. ⌜ dualRecords (now (a .exit)) ≡ turnRows dualAlgebra n s tau p q (dualRecords (now (a .entry))) ⌝ }
 {
     for j in q + 1..n {
         turn(n, a, s, tau, p, j, q, j);
@@ -90,7 +89,7 @@ pub(crate) fn turn_above(n: usize, a: &mut [f64], s: Dual, tau: Dual, p: usize, 
     requires { ⌜ Square 2 n (now a) ⌝ }
     requires { ⌜ (p < q) × (q < n) ⌝ }
     ensures { λ _. ⌜ Square 2 n (now (a .exit)) ⌝ }
-    ensures { λ _. ⌜ records (now (a .exit)) ≡ turnAbove dualAlgebra n s tau p q (records (now (a .entry))) ⌝ }
+    ensures { λ _. ⌜ dualRecords (now (a .exit)) ≡ turnAbove dualAlgebra n s tau p q (dualRecords (now (a .entry))) ⌝ }
 {
     put(n, a, p, q, Dual::ZERO);
     turn_columns(n, a, s, tau, p, q, p);
@@ -102,7 +101,7 @@ pub(crate) fn turn_above(n: usize, a: &mut [f64], s: Dual, tau: Dual, p: usize, 
 pub(crate) fn shift(d: &mut [f64], p: usize, q: usize, h: Dual)
     requires { ⌜ p * 2 + 1 < length (now d) ⌝ }
     requires { ⌜ q * 2 + 1 < length (now d) ⌝ }
-    ensures { λ _. ⌜ records (now (d .exit)) ≡ Rattle.rotations.specs.Rotation.shift dualAlgebra p q h (records (now (d .entry))) ⌝ }
+    ensures { λ _. ⌜ dualRecords (now (d .exit)) ≡ Rattle.rotations.specs.Rotation.shift dualAlgebra p q h (dualRecords (now (d .entry))) ⌝ }
 {
     let x = read(d, p);
     write(d, p, x.sub(h));

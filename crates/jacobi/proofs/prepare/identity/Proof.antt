@@ -1,7 +1,7 @@
 -- Floats that are cleared are records of zero, from which the ones are put.
 use borrow.Author.Needs.{needs}
 use Rattle.jacobi.proofs.Started.{identity-by}
-use Rattle.dual_cells.proofs.Cells.{dual-laws}
+use Rattle.dual.proofs.Flat.{dual-laws}
 use Rattle.jacobi.proofs.prepare.identity.Statement.{statement}
 use Rattle.jacobi.proofs.prepare.identity.Tie as tie
 

@@ -1,6 +1,6 @@
 -- The three calls make the definition's parts, each in its buffer.
 use borrow.Author.Needs.{needs}
-use Rattle.dual_cells.proofs.Cells.{dual-laws}
+use Rattle.dual.proofs.Flat.{dual-laws}
 use Rattle.rotations.proofs.Kept.{sized-kept}
 use Rattle.jacobi.proofs.Started.{start-by}
 use Rattle.jacobi.proofs.prepare.prepare.Statement.{statement}

@@ -2,16 +2,15 @@
 use borrow.Author.Needs.{needs}
 use Prim.Native.Nat.{_-_}
 use Rattle.algebra.specs.Loop.{upto}
-use Rattle.dual.specs.Rules.{dualAlgebra}
-use Rattle.dual_cells.proofs.Cells.{dual-laws}
-use Rattle.dual_cells.specs.Records.{records}
+use Rattle.dual.specs.Rules.{dualAlgebra, dualRecords}
+use Rattle.dual.proofs.Flat.{dual-laws}
 use Rattle.matrices.proofs.Turns.{Running, run-turn, run-end}
 use Rattle.jacobi.specs.Sweeps.{putDiagonal}
 use Rattle.jacobi.proofs.prepare.put_diagonal.Statement.{statement}
 use Rattle.jacobi.proofs.prepare.put_diagonal.Tie as tie
 
 abbrev Inv-loop : tie.InvT-loop
-Inv-loop n a d₀ i₀ d i = Running dual-laws (putDiagonal dualAlgebra n (records a)) n d₀ d i (upto 0 n (putDiagonal dualAlgebra n (records a)) (records d₀))
+Inv-loop n a d₀ i₀ d i = Running dual-laws (putDiagonal dualAlgebra n (dualRecords a)) n d₀ d i (upto 0 n (putDiagonal dualAlgebra n (dualRecords a)) (dualRecords d₀))
 
 abbrev μ-loop : tie.MeasureT-loop
 μ-loop n a d₀ i₀ d i = n - i

@@ -2,9 +2,8 @@
 use borrow.Author.Needs.{needs}
 use Prim.Native.Nat.{_-_}
 use Rattle.algebra.specs.Loop.{upto}
-use Rattle.dual.specs.Rules.{dualAlgebra}
-use Rattle.dual_cells.proofs.Cells.{dual-laws}
-use Rattle.dual_cells.specs.Records.{records}
+use Rattle.dual.specs.Rules.{dualAlgebra, dualRecords}
+use Rattle.dual.proofs.Flat.{dual-laws}
 use Rattle.matrices.proofs.Turns.{Running, run-turn, run-end}
 use Rattle.matrices.specs.Matrix.{Square}
 use Rattle.jacobi.specs.Sweeps.{putOne}
@@ -12,7 +11,7 @@ use Rattle.jacobi.proofs.prepare.put_ones.Statement.{statement}
 use Rattle.jacobi.proofs.prepare.put_ones.Tie as tie
 
 abbrev Inv-loop : tie.InvT-loop
-Inv-loop n v₀ i₀ v i = Square 2 n v × Running dual-laws (putOne dualAlgebra n) n v₀ v i (upto 0 n (putOne dualAlgebra n) (records v₀))
+Inv-loop n v₀ i₀ v i = Square 2 n v × Running dual-laws (putOne dualAlgebra n) n v₀ v i (upto 0 n (putOne dualAlgebra n) (dualRecords v₀))
 
 abbrev μ-loop : tie.MeasureT-loop
 μ-loop n v₀ i₀ v i = n - i

@@ -1,6 +1,6 @@
 -- Floats that are cleared are records of zero, from which the diagonal is put; the rest is a copy and zeros.
 use borrow.Author.Needs.{needs}
-use Rattle.dual_cells.proofs.Cells.{dual-laws}
+use Rattle.dual.proofs.Flat.{dual-laws}
 use Rattle.jacobi.proofs.Scratch.{blank}
 use Rattle.jacobi.proofs.Started.{diagonal-by, diagonal-copied}
 use Rattle.jacobi.proofs.prepare.start_sums.Statement.{statement}

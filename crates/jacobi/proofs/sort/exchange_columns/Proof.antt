@@ -2,9 +2,9 @@
 use borrow.Author.Needs.{needs}
 use Prim.Native.Nat.{_-_}
 use denote.Ref.{now}
-use Rattle.dual.specs.Rules.{dualAlgebra}
-use Rattle.dual_cells.proofs.Cells.{dual-laws, Inside, inside}
-use Rattle.dual_cells.specs.Records.{records}
+use Rattle.dual.specs.Rules.{dualAlgebra, dualRecords}
+use Rattle.dual.proofs.Flat.{dual-laws}
+use Rattle.matrices.proofs.Places.{Inside, inside}
 use Rattle.matrices.proofs.Turns.{Running, run-turn, run-end}
 use Rattle.rotations.proofs.Kept.{square-kept}
 use Rattle.jacobi.specs.Sort.{exchangeInRow, exchangeColumns}
@@ -12,7 +12,7 @@ use Rattle.jacobi.proofs.sort.exchange_columns.Statement.{statement}
 use Rattle.jacobi.proofs.sort.exchange_columns.Tie as tie
 
 abbrev Inv-loop : tie.InvT-loop
-Inv-loop n v₀ m k l₀ v l = Running dual-laws (exchangeInRow dualAlgebra n m k) n v₀ v l (exchangeColumns dualAlgebra n m k (records v₀))
+Inv-loop n v₀ m k l₀ v l = Running dual-laws (exchangeInRow dualAlgebra n m k) n v₀ v l (exchangeColumns dualAlgebra n m k (dualRecords v₀))
 
 abbrev μ-loop : tie.MeasureT-loop
 μ-loop n v₀ m k l₀ v l = n - l
@@ -23,7 +23,7 @@ unfolding exchangeColumns
 loop-holds c = search needs
 
 -- the two places of row l
-places : (c : tie.In-loop Inv-loop μ-loop) → let s = c .before .before .before .args in let at = c .before .loop in Inside (s .n) (at .l) (s .m) (at .v) × Inside (s .n) (at .l) (s .k) (at .v)
+places : (c : tie.In-loop Inv-loop μ-loop) → let s = c .before .before .before .args in let at = c .before .loop in Inside 2 (s .n) (at .l) (s .m) (at .v) × Inside 2 (s .n) (at .l) (s .k) (at .v)
 places c = search (needs, inside, square-kept)
 
 -- a turn exchanges within its row

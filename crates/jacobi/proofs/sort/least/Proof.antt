@@ -4,14 +4,13 @@ use Prim.Native.Nat.{_-_, _<_}
 use mathlib.Core.Path.{_≡_}
 use Rattle.algebra.specs.Loop.{upto}
 use Rattle.algebra.proofs.Loop.{upto-turn, upto-end}
-use Rattle.dual.specs.Rules.{dualAlgebra}
-use Rattle.dual_cells.specs.Records.{records}
+use Rattle.dual.specs.Rules.{dualAlgebra, dualRecords}
 use Rattle.jacobi.specs.Sort.{smaller, least}
 use Rattle.jacobi.proofs.sort.least.Statement.{statement}
 use Rattle.jacobi.proofs.sort.least.Tie as tie
 
 abbrev Inv-loop : tie.InvT-loop
-Inv-loop n d k m₀ l₀ m l = (m < n) × (upto l n (smaller dualAlgebra n (records d)) m ≡ least dualAlgebra n (records d) k)
+Inv-loop n d k m₀ l₀ m l = (m < n) × (upto l n (smaller dualAlgebra n (dualRecords d)) m ≡ least dualAlgebra n (dualRecords d) k)
 
 abbrev μ-loop : tie.MeasureT-loop
 μ-loop n d k m₀ l₀ m l = n - l

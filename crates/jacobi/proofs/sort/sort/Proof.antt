@@ -1,15 +1,14 @@
 -- The loop keeps: what is left to select gives the whole order.
 use borrow.Author.Needs.{needs}
 use Prim.Native.Nat.{_-_}
-use Rattle.dual.specs.Rules.{dualAlgebra}
-use Rattle.dual_cells.specs.Records.{records}
+use Rattle.dual.specs.Rules.{dualAlgebra, dualRecords}
 use Rattle.jacobi.specs.Sort.{pairs, sort}
 use Rattle.jacobi.proofs.Ordered.{Sorting, sort-turn, sort-end}
 use Rattle.jacobi.proofs.sort.sort.Statement.{statement}
 use Rattle.jacobi.proofs.sort.sort.Tie as tie
 
 abbrev Inv-loop : tie.InvT-loop
-Inv-loop n d₀ v₀ k₀ k-end d v k = Sorting n k-end (sort dualAlgebra n (pairs (records d₀) (records v₀))) d v k
+Inv-loop n d₀ v₀ k₀ k-end d v k = Sorting n k-end (sort dualAlgebra n (pairs (dualRecords d₀) (dualRecords v₀))) d v k
 
 abbrev μ-loop : tie.MeasureT-loop
 μ-loop n d₀ v₀ k₀ k-end d v k = k-end - k

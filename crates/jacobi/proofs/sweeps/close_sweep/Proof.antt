@@ -1,6 +1,6 @@
 -- The sums are added, copied, and what was added is cleared.
 use borrow.Author.Needs.{needs}
-use Rattle.dual_cells.proofs.Cells.{dual-laws}
+use Rattle.dual.proofs.Flat.{dual-laws}
 use Rattle.jacobi.proofs.Scratch.{blank, copied}
 use Rattle.jacobi.proofs.sweeps.close_sweep.Statement.{statement}
 use Rattle.jacobi.proofs.sweeps.close_sweep.Tie as tie

@@ -4,15 +4,14 @@ use Prim.Native.Nat.{_-_}
 use mathlib.Core.Path.{_≡_}
 use Rattle.algebra.specs.Loop.{upto}
 use Rattle.algebra.proofs.Loop.{upto-end}
-use Rattle.dual.specs.Rules.{dualAlgebra}
-use Rattle.dual_cells.specs.Records.{records}
+use Rattle.dual.specs.Rules.{dualAlgebra, dualRecords}
 use Rattle.jacobi.specs.Sweeps.{addSquare, columnSquares}
 use Rattle.jacobi.proofs.Swept.{square-turn}
 use Rattle.jacobi.proofs.sweeps.column_squares.Statement.{statement}
 use Rattle.jacobi.proofs.sweeps.column_squares.Tie as tie
 
 abbrev Inv-loop : tie.InvT-loop
-Inv-loop n a j thresh sum₀ i₀ sum i = upto i j (addSquare dualAlgebra n (records a) j) sum ≡ columnSquares dualAlgebra n (records a) j thresh
+Inv-loop n a j thresh sum₀ i₀ sum i = upto i j (addSquare dualAlgebra n (dualRecords a) j) sum ≡ columnSquares dualAlgebra n (dualRecords a) j thresh
 
 abbrev μ-loop : tie.MeasureT-loop
 μ-loop n a j thresh sum₀ i₀ sum i = j - i

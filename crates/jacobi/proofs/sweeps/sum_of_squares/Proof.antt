@@ -4,14 +4,13 @@ use Prim.Native.Nat.{_-_}
 use mathlib.Core.Path.{_≡_}
 use Rattle.algebra.specs.Loop.{upto}
 use Rattle.algebra.proofs.Loop.{upto-turn, upto-end}
-use Rattle.dual.specs.Rules.{dualAlgebra}
-use Rattle.dual_cells.specs.Records.{records}
+use Rattle.dual.specs.Rules.{dualAlgebra, dualRecords}
 use Rattle.jacobi.specs.Sweeps.{columnSquares, sumOfSquares}
 use Rattle.jacobi.proofs.sweeps.sum_of_squares.Statement.{statement}
 use Rattle.jacobi.proofs.sweeps.sum_of_squares.Tie as tie
 
 abbrev Inv-loop : tie.InvT-loop
-Inv-loop n a sum₀ j₀ sum j = upto j n (columnSquares dualAlgebra n (records a)) sum ≡ sumOfSquares dualAlgebra n (records a)
+Inv-loop n a sum₀ j₀ sum j = upto j n (columnSquares dualAlgebra n (dualRecords a)) sum ≡ sumOfSquares dualAlgebra n (dualRecords a)
 
 abbrev μ-loop : tie.MeasureT-loop
 μ-loop n a sum₀ j₀ sum j = n - j

@@ -1,8 +1,7 @@
 -- Each arm of the match is a case of the definition's choice, which was made from the entry and the two diagonal entries as they were.
 use borrow.Author.Needs.{needs}
 use denote.Ref.{now}
-use Rattle.dual.specs.Rules.{dualAlgebra}
-use Rattle.dual_cells.specs.Records.{records}
+use Rattle.dual.specs.Rules.{dualAlgebra, dualRecords}
 use Rattle.rotations.proofs.Kept.{sized-kept}
 use Rattle.rotations.proofs.Turned.{Entries, pair-keep, pair-clear, pair-rotate}
 use Rattle.rotations.proofs.pair.pair.Statement.{statement}
@@ -10,7 +9,7 @@ use Rattle.rotations.proofs.pair.pair.Tie as tie
 
 -- what was read
 read : (c : tie.After-read2) → let s = c .before .before .before .before .before .before .before .before .before .before .args in
-    Entries dualAlgebra (s .n) (s .p) (s .q) (records (now (s .a))) (records (now (s .d))) (c .before .before .before .before .get .result) (c .before .before .read .result) (c .read2 .result)
+    Entries dualAlgebra (s .n) (s .p) (s .q) (dualRecords (now (s .a))) (dualRecords (now (s .d))) (c .before .before .before .before .get .result) (c .before .before .read .result) (c .read2 .result)
 read c = record { entry = search needs; first = search needs; second = search needs }
 
 -- what the caller showed, which lies too far back for a search

@@ -1,9 +1,8 @@
 -- The loop keeps: what is left to turn gives the columns whole.
 use borrow.Author.Needs.{needs}
 use Prim.Native.Nat.{_-_}
-use Rattle.dual.specs.Rules.{dualAlgebra}
-use Rattle.dual_cells.proofs.Cells.{dual-laws}
-use Rattle.dual_cells.specs.Records.{records}
+use Rattle.dual.specs.Rules.{dualAlgebra, dualRecords}
+use Rattle.dual.proofs.Flat.{dual-laws}
 use Rattle.matrices.proofs.Turns.{Running, run-turn, run-end}
 use Rattle.matrices.specs.Matrix.{Square}
 use Rattle.rotations.specs.Rotation.{turn, turnColumns}
@@ -11,7 +10,7 @@ use Rattle.rotations.proofs.turn.turn_columns.Statement.{statement}
 use Rattle.rotations.proofs.turn.turn_columns.Tie as tie
 
 abbrev Inv-loop : tie.InvT-loop
-Inv-loop n a₀ s tau p q rows j₀ a j = Square 2 n a × Running dual-laws (λ j. turn dualAlgebra n s tau j p j q) rows a₀ a j (turnColumns dualAlgebra n s tau p q rows (records a₀))
+Inv-loop n a₀ s tau p q rows j₀ a j = Square 2 n a × Running dual-laws (λ j. turn dualAlgebra n s tau j p j q) rows a₀ a j (turnColumns dualAlgebra n s tau p q rows (dualRecords a₀))
 
 abbrev μ-loop : tie.MeasureT-loop
 μ-loop n a₀ s tau p q rows j₀ a j = rows - j

@@ -1,8 +1,10 @@
+-- Both records are read before either is written, as in the definition.
 use borrow.Author.Needs.{needs}
 use Rattle.matrices.specs.Matrix.{exchange}
-use Rattle.dual_cells.proofs.exchange.Statement.{statement}
-use Rattle.dual_cells.proofs.exchange.Tie as tie
+use Rattle.rotations.proofs.cells.exchange.Statement.{statement}
+use Rattle.rotations.proofs.cells.exchange.Tie as tie
 
+-- the two records written, from what was read
 returns : tie.Need-returns
 unfolding exchange
 returns c = cc
