@@ -1,118 +1,74 @@
 -- No second answer meets the promise of a public function of this crate. Assumes nothing.
 use mathlib.Core.Path.{refl, sym, _∙_}
 use Rattle.real.proofs.Only.{Only}
-use Rattle.derivatives.proofs.Series.recip.Kinds as recip-k
-use Rattle.derivatives.proofs.Series.recip.Reads as recip
-use Rattle.derivatives.proofs.Series.powf.Kinds as powf-k
-use Rattle.derivatives.proofs.Series.powf.Reads as powf
-use Rattle.derivatives.proofs.Series.sqrt.Kinds as sqrt-k
-use Rattle.derivatives.proofs.Series.sqrt.Reads as sqrt
-use Rattle.derivatives.proofs.Series.cbrt.Kinds as cbrt-k
-use Rattle.derivatives.proofs.Series.cbrt.Reads as cbrt
-use Rattle.derivatives.proofs.Series.exp.Kinds as exp-k
-use Rattle.derivatives.proofs.Series.exp.Reads as exp
-use Rattle.derivatives.proofs.Series.exp2.Kinds as exp2-k
-use Rattle.derivatives.proofs.Series.exp2.Reads as exp2
-use Rattle.derivatives.proofs.Series.exp_m1.Kinds as exp-m1-k
-use Rattle.derivatives.proofs.Series.exp_m1.Reads as exp-m1
-use Rattle.derivatives.proofs.Series.ln.Kinds as ln-k
-use Rattle.derivatives.proofs.Series.ln.Reads as ln
-use Rattle.derivatives.proofs.Series.log.Kinds as log-k
-use Rattle.derivatives.proofs.Series.log.Reads as log
-use Rattle.derivatives.proofs.Series.log2.Kinds as log2-k
-use Rattle.derivatives.proofs.Series.log2.Reads as log2
-use Rattle.derivatives.proofs.Series.log10.Kinds as log10-k
-use Rattle.derivatives.proofs.Series.log10.Reads as log10
-use Rattle.derivatives.proofs.Series.ln_1p.Kinds as ln-1p-k
-use Rattle.derivatives.proofs.Series.ln_1p.Reads as ln-1p
-use Rattle.derivatives.proofs.Series.sin.Kinds as sin-k
-use Rattle.derivatives.proofs.Series.sin.Reads as sin
-use Rattle.derivatives.proofs.Series.cos.Kinds as cos-k
-use Rattle.derivatives.proofs.Series.cos.Reads as cos
-use Rattle.derivatives.proofs.Series.asin.Kinds as asin-k
-use Rattle.derivatives.proofs.Series.asin.Reads as asin
-use Rattle.derivatives.proofs.Series.acos.Kinds as acos-k
-use Rattle.derivatives.proofs.Series.acos.Reads as acos
-use Rattle.derivatives.proofs.Series.atan.Kinds as atan-k
-use Rattle.derivatives.proofs.Series.atan.Reads as atan
-use Rattle.derivatives.proofs.Series.sinh.Kinds as sinh-k
-use Rattle.derivatives.proofs.Series.sinh.Reads as sinh
-use Rattle.derivatives.proofs.Series.cosh.Kinds as cosh-k
-use Rattle.derivatives.proofs.Series.cosh.Reads as cosh
-use Rattle.derivatives.proofs.Series.asinh.Kinds as asinh-k
-use Rattle.derivatives.proofs.Series.asinh.Reads as asinh
-use Rattle.derivatives.proofs.Series.acosh.Kinds as acosh-k
-use Rattle.derivatives.proofs.Series.acosh.Reads as acosh
-use Rattle.derivatives.proofs.Series.atanh.Kinds as atanh-k
-use Rattle.derivatives.proofs.Series.atanh.Reads as atanh
-use Rattle.derivatives.proofs.choose.Kinds as choose-k
-use Rattle.derivatives.proofs.choose.Reads as choose
+use Rattle.derivatives.proofs.Series as series
+use Rattle.derivatives.proofs.choose
 
-pub recip-only : Only 0 recip-k.ps recip-k.r recip.Pre recip.Post
+pub recip-only : Only 0 series.recip.Kinds.ps series.recip.Kinds.r series.recip.Reads.Pre series.recip.Reads.Post
 recip-only κs a x y v w h p q = (p ∙ sym q, refl)
 
-pub powf-only : Only 0 powf-k.ps powf-k.r powf.Pre powf.Post
+pub powf-only : Only 0 series.powf.Kinds.ps series.powf.Kinds.r series.powf.Reads.Pre series.powf.Reads.Post
 powf-only κs a x y v w h p q = (p ∙ sym q, refl)
 
-pub sqrt-only : Only 0 sqrt-k.ps sqrt-k.r sqrt.Pre sqrt.Post
+pub sqrt-only : Only 0 series.sqrt.Kinds.ps series.sqrt.Kinds.r series.sqrt.Reads.Pre series.sqrt.Reads.Post
 sqrt-only κs a x y v w h p q = (p ∙ sym q, refl)
 
-pub cbrt-only : Only 0 cbrt-k.ps cbrt-k.r cbrt.Pre cbrt.Post
+pub cbrt-only : Only 0 series.cbrt.Kinds.ps series.cbrt.Kinds.r series.cbrt.Reads.Pre series.cbrt.Reads.Post
 cbrt-only κs a x y v w h p q = (p ∙ sym q, refl)
 
-pub exp-only : Only 0 exp-k.ps exp-k.r exp.Pre exp.Post
+pub exp-only : Only 0 series.exp.Kinds.ps series.exp.Kinds.r series.exp.Reads.Pre series.exp.Reads.Post
 exp-only κs a x y v w h p q = (p ∙ sym q, refl)
 
-pub exp2-only : Only 0 exp2-k.ps exp2-k.r exp2.Pre exp2.Post
+pub exp2-only : Only 0 series.exp2.Kinds.ps series.exp2.Kinds.r series.exp2.Reads.Pre series.exp2.Reads.Post
 exp2-only κs a x y v w h p q = (p ∙ sym q, refl)
 
-pub exp-m1-only : Only 0 exp-m1-k.ps exp-m1-k.r exp-m1.Pre exp-m1.Post
+pub exp-m1-only : Only 0 series.«exp_m1».Kinds.ps series.«exp_m1».Kinds.r series.«exp_m1».Reads.Pre series.«exp_m1».Reads.Post
 exp-m1-only κs a x y v w h p q = (p ∙ sym q, refl)
 
-pub ln-only : Only 0 ln-k.ps ln-k.r ln.Pre ln.Post
+pub ln-only : Only 0 series.ln.Kinds.ps series.ln.Kinds.r series.ln.Reads.Pre series.ln.Reads.Post
 ln-only κs a x y v w h p q = (p ∙ sym q, refl)
 
-pub log-only : Only 0 log-k.ps log-k.r log.Pre log.Post
+pub log-only : Only 0 series.log.Kinds.ps series.log.Kinds.r series.log.Reads.Pre series.log.Reads.Post
 log-only κs a x y v w h p q = (p ∙ sym q, refl)
 
-pub log2-only : Only 0 log2-k.ps log2-k.r log2.Pre log2.Post
+pub log2-only : Only 0 series.log2.Kinds.ps series.log2.Kinds.r series.log2.Reads.Pre series.log2.Reads.Post
 log2-only κs a x y v w h p q = (p ∙ sym q, refl)
 
-pub log10-only : Only 0 log10-k.ps log10-k.r log10.Pre log10.Post
+pub log10-only : Only 0 series.log10.Kinds.ps series.log10.Kinds.r series.log10.Reads.Pre series.log10.Reads.Post
 log10-only κs a x y v w h p q = (p ∙ sym q, refl)
 
-pub ln-1p-only : Only 0 ln-1p-k.ps ln-1p-k.r ln-1p.Pre ln-1p.Post
+pub ln-1p-only : Only 0 series.«ln_1p».Kinds.ps series.«ln_1p».Kinds.r series.«ln_1p».Reads.Pre series.«ln_1p».Reads.Post
 ln-1p-only κs a x y v w h p q = (p ∙ sym q, refl)
 
-pub sin-only : Only 0 sin-k.ps sin-k.r sin.Pre sin.Post
+pub sin-only : Only 0 series.sin.Kinds.ps series.sin.Kinds.r series.sin.Reads.Pre series.sin.Reads.Post
 sin-only κs a x y v w h p q = (p ∙ sym q, refl)
 
-pub cos-only : Only 0 cos-k.ps cos-k.r cos.Pre cos.Post
+pub cos-only : Only 0 series.cos.Kinds.ps series.cos.Kinds.r series.cos.Reads.Pre series.cos.Reads.Post
 cos-only κs a x y v w h p q = (p ∙ sym q, refl)
 
-pub asin-only : Only 0 asin-k.ps asin-k.r asin.Pre asin.Post
+pub asin-only : Only 0 series.asin.Kinds.ps series.asin.Kinds.r series.asin.Reads.Pre series.asin.Reads.Post
 asin-only κs a x y v w h p q = (p ∙ sym q, refl)
 
-pub acos-only : Only 0 acos-k.ps acos-k.r acos.Pre acos.Post
+pub acos-only : Only 0 series.acos.Kinds.ps series.acos.Kinds.r series.acos.Reads.Pre series.acos.Reads.Post
 acos-only κs a x y v w h p q = (p ∙ sym q, refl)
 
-pub atan-only : Only 0 atan-k.ps atan-k.r atan.Pre atan.Post
+pub atan-only : Only 0 series.atan.Kinds.ps series.atan.Kinds.r series.atan.Reads.Pre series.atan.Reads.Post
 atan-only κs a x y v w h p q = (p ∙ sym q, refl)
 
-pub sinh-only : Only 0 sinh-k.ps sinh-k.r sinh.Pre sinh.Post
+pub sinh-only : Only 0 series.sinh.Kinds.ps series.sinh.Kinds.r series.sinh.Reads.Pre series.sinh.Reads.Post
 sinh-only κs a x y v w h p q = (p ∙ sym q, refl)
 
-pub cosh-only : Only 0 cosh-k.ps cosh-k.r cosh.Pre cosh.Post
+pub cosh-only : Only 0 series.cosh.Kinds.ps series.cosh.Kinds.r series.cosh.Reads.Pre series.cosh.Reads.Post
 cosh-only κs a x y v w h p q = (p ∙ sym q, refl)
 
-pub asinh-only : Only 0 asinh-k.ps asinh-k.r asinh.Pre asinh.Post
+pub asinh-only : Only 0 series.asinh.Kinds.ps series.asinh.Kinds.r series.asinh.Reads.Pre series.asinh.Reads.Post
 asinh-only κs a x y v w h p q = (p ∙ sym q, refl)
 
-pub acosh-only : Only 0 acosh-k.ps acosh-k.r acosh.Pre acosh.Post
+pub acosh-only : Only 0 series.acosh.Kinds.ps series.acosh.Kinds.r series.acosh.Reads.Pre series.acosh.Reads.Post
 acosh-only κs a x y v w h p q = (p ∙ sym q, refl)
 
-pub atanh-only : Only 0 atanh-k.ps atanh-k.r atanh.Pre atanh.Post
+pub atanh-only : Only 0 series.atanh.Kinds.ps series.atanh.Kinds.r series.atanh.Reads.Pre series.atanh.Reads.Post
 atanh-only κs a x y v w h p q = (p ∙ sym q, refl)
 
-pub choose-only : Only 0 choose-k.ps choose-k.r choose.Pre choose.Post
+pub choose-only : Only 0 choose.Kinds.ps choose.Kinds.r choose.Reads.Pre choose.Reads.Post
 choose-only κs a x y v w h p q = (p ∙ sym q, refl)

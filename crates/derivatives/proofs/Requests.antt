@@ -1,16 +1,19 @@
--- The plan of a request, from what the request is: cited by `choose`, arm by arm. Assumes nothing.
+-- The plan of a request, from what the request is, and its cases by the tests: cited by `choose` and the functions that it calls. Assumes nothing.
 use mathlib.Core.Path.{_≡_}
+use mathlib.Core.Bool.{true, false}
 use mir.Syntax.{w32}
 use mir.Val.{toZ, ofZ}
-use lib.Ieee.{Float}
+use lib.Ieee.{Float, lt, eq}
 use lib.IntN.{ℤ}
+use Rattle.real.specs.Operations.{_⊖_, zero, one, epsilon}
+use Rattle.real.specs.Sign.{absOf}
 use Rattle.derivatives.specs.declared.Series.{Series}
 use Rattle.derivatives.specs.declared.Function.{Function}
 use Rattle.derivatives.specs.declared.Function.the-variants.{Powi, SphJ0, SphJ1, SphJ2}
 use Rattle.derivatives.specs.declared.Plan.{Plan}
-use Rattle.derivatives.specs.declared.Plan.the-variants.{SmallJ0, SmallJ1, SmallJ2, BesselJ0, BesselJ1, BesselJ2}
-use Rattle.derivatives.specs.Series.{sinSeries, cosSeries}
-use Rattle.derivatives.specs.Plan.{planPowi, small, planOf}
+use Rattle.derivatives.specs.declared.Plan.the-variants.{One, Same, Square, Chain, SmallJ0, SmallJ1, SmallJ2, BesselJ0, BesselJ1, BesselJ2}
+use Rattle.derivatives.specs.Series.{powfSeries, sinSeries, cosSeries}
+use Rattle.derivatives.specs.Plan.{planPowi, planPowf, small, planOf}
 
 module _ (re : Float) (f : Function) (p : Plan) where
   -- the plan of what f is
@@ -30,3 +33,25 @@ module _ (re : Float) (f : Function) (p : Plan) where
 
   pub planned-j2 : (s c : Float) (u v : Series) → f ≡ SphJ2 s c → u ≡ sinSeries s c → v ≡ cosSeries s c → p ≡ small re SmallJ2 (BesselJ2 u v) → p ≡ planOf re f
   planned-j2 s c u v told e g h = rw (told, ← e, ← g) h
+
+-- small or not: a is |re|, as `abs` gives it
+module _ (re a : Float) (plan other : Plan) where
+  pub small-taken : a ≡ absOf re → lt a epsilon ≡ true → plan ≡ small re plan other
+  small-taken told e = rw (← told, e)
+
+  pub small-left : a ≡ absOf re → lt a epsilon ≡ false → other ≡ small re plan other
+  small-left told e = rw (← told, e)
+
+-- the exponents of powf: zero, one, near two, any other; a is |n - 1 - 1|, as `abs` gives it
+module _ (re n pow3 : Float) where
+  pub powf-one : eq n zero ≡ true → One ≡ planPowf re n pow3
+  powf-one e = rw e
+
+  pub powf-same : eq n zero ≡ false → eq n one ≡ true → Same ≡ planPowf re n pow3
+  powf-same e f = rw (e, f)
+
+  pub powf-square : (a : Float) → eq n zero ≡ false → eq n one ≡ false → a ≡ absOf (n ⊖ one ⊖ one) → lt a epsilon ≡ true → Square ≡ planPowf re n pow3
+  powf-square a e f told g = rw (e, f, ← told, g)
+
+  pub powf-chain : (a : Float) (s : Series) → eq n zero ≡ false → eq n one ≡ false → a ≡ absOf (n ⊖ one ⊖ one) → lt a epsilon ≡ false → s ≡ powfSeries re n pow3 → Chain s ≡ planPowf re n pow3
+  powf-chain a s e f told g h = rw (e, f, ← told, g, h)

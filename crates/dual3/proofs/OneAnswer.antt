@@ -4,82 +4,8 @@ use Rattle.real.proofs.Only.{Only}
 use Rattle.dual3.specs.declared.Dual3Answer.{Dual3Answer}
 use Rattle.dual3.specs.declared.Dual3Answer.the-variants.{Value, Refused}
 use Rattle.dual3.specs.Rules.{outcome}
-use Rattle.dual3.proofs.Dual3.new.Kinds as new-k
-use Rattle.dual3.proofs.Dual3.new.Reads as new
-use Rattle.dual3.proofs.Dual3.from_re.Kinds as from-re-k
-use Rattle.dual3.proofs.Dual3.from_re.Reads as from-re
-use Rattle.dual3.proofs.Dual3.derivative.Kinds as derivative-k
-use Rattle.dual3.proofs.Dual3.derivative.Reads as derivative
-use Rattle.dual3.proofs.Dual3.mul.Kinds as mul-k
-use Rattle.dual3.proofs.Dual3.mul.Reads as mul
-use Rattle.dual3.proofs.Dual3.div.Kinds as div-k
-use Rattle.dual3.proofs.Dual3.div.Reads as div
-use Rattle.dual3.proofs.Dual3.zero.Kinds as zero-k
-use Rattle.dual3.proofs.Dual3.zero.Reads as zero
-use Rattle.dual3.proofs.Dual3.is_zero.Kinds as is-zero-k
-use Rattle.dual3.proofs.Dual3.is_zero.Reads as is-zero
-use Rattle.dual3.proofs.Dual3.one.Kinds as one-k
-use Rattle.dual3.proofs.Dual3.one.Reads as one
-use Rattle.dual3.proofs.Dual3.is_one.Kinds as is-one-k
-use Rattle.dual3.proofs.Dual3.is_one.Reads as is-one
-use Rattle.dual3.proofs.Dual3.nderiv.Kinds as nderiv-k
-use Rattle.dual3.proofs.Dual3.nderiv.Reads as nderiv
-use Rattle.dual3.proofs.Dual3.add.Kinds as add-k
-use Rattle.dual3.proofs.Dual3.add.Reads as add
-use Rattle.dual3.proofs.Dual3.sub.Kinds as sub-k
-use Rattle.dual3.proofs.Dual3.sub.Reads as sub
-use Rattle.dual3.proofs.Dual3.neg.Kinds as neg-k
-use Rattle.dual3.proofs.Dual3.neg.Reads as neg
-use Rattle.dual3.proofs.Dual3.mul_float.Kinds as mul-float-k
-use Rattle.dual3.proofs.Dual3.mul_float.Reads as mul-float
-use Rattle.dual3.proofs.Dual3.div_float.Kinds as div-float-k
-use Rattle.dual3.proofs.Dual3.div_float.Reads as div-float
-use Rattle.dual3.proofs.Dual3.add_float.Kinds as add-float-k
-use Rattle.dual3.proofs.Dual3.add_float.Reads as add-float
-use Rattle.dual3.proofs.Dual3.sub_float.Kinds as sub-float-k
-use Rattle.dual3.proofs.Dual3.sub_float.Reads as sub-float
-use Rattle.dual3.proofs.Dual3.abs.Kinds as abs-k
-use Rattle.dual3.proofs.Dual3.abs.Reads as abs
-use Rattle.dual3.proofs.Dual3.abs_sub.Kinds as abs-sub-k
-use Rattle.dual3.proofs.Dual3.abs_sub.Reads as abs-sub
-use Rattle.dual3.proofs.Dual3.signum.Kinds as signum-k
-use Rattle.dual3.proofs.Dual3.signum.Reads as signum
-use Rattle.dual3.proofs.Dual3.is_positive.Kinds as is-positive-k
-use Rattle.dual3.proofs.Dual3.is_positive.Reads as is-positive
-use Rattle.dual3.proofs.Dual3.is_negative.Kinds as is-negative-k
-use Rattle.dual3.proofs.Dual3.is_negative.Reads as is-negative
-use Rattle.dual3.proofs.Dual3.eq.Kinds as eq-k
-use Rattle.dual3.proofs.Dual3.eq.Reads as eq
-use Rattle.dual3.proofs.Dual3.lt.Kinds as lt-k
-use Rattle.dual3.proofs.Dual3.lt.Reads as lt
-use Rattle.dual3.proofs.Dual3.le.Kinds as le-k
-use Rattle.dual3.proofs.Dual3.le.Reads as le
-use Rattle.dual3.proofs.Dual3.gt.Kinds as gt-k
-use Rattle.dual3.proofs.Dual3.gt.Reads as gt
-use Rattle.dual3.proofs.Dual3.ge.Kinds as ge-k
-use Rattle.dual3.proofs.Dual3.ge.Reads as ge
-use Rattle.dual3.proofs.Dual3.scale.Kinds as scale-k
-use Rattle.dual3.proofs.Dual3.scale.Reads as scale
-use Rattle.dual3.proofs.Dual3.recip.Kinds as recip-k
-use Rattle.dual3.proofs.Dual3.recip.Reads as recip
-use Rattle.dual3.proofs.Dual3.inv.Kinds as inv-k
-use Rattle.dual3.proofs.Dual3.inv.Reads as inv
-use Rattle.dual3.proofs.Dual3.sqrt.Kinds as sqrt-k
-use Rattle.dual3.proofs.Dual3.sqrt.Reads as sqrt
-use Rattle.dual3.proofs.Dual3.sin_cos.Kinds as sin-cos-k
-use Rattle.dual3.proofs.Dual3.sin_cos.Reads as sin-cos
-use Rattle.dual3.proofs.Dual3.atan2.Kinds as atan2-k
-use Rattle.dual3.proofs.Dual3.atan2.Reads as atan2
-use Rattle.dual3.proofs.Dual3.mul_add.Kinds as mul-add-k
-use Rattle.dual3.proofs.Dual3.mul_add.Reads as mul-add
-use Rattle.dual3.proofs.Dual3.powd.Kinds as powd-k
-use Rattle.dual3.proofs.Dual3.powd.Reads as powd
-use Rattle.dual3.proofs.Dual3.apply.Kinds as apply-k
-use Rattle.dual3.proofs.Dual3.apply.Reads as apply
-use Rattle.dual3.proofs.records.sum.Kinds as sum-k
-use Rattle.dual3.proofs.records.sum.Reads as sum
-use Rattle.dual3.proofs.records.product.Kinds as product-k
-use Rattle.dual3.proofs.records.product.Reads as product
+use Rattle.dual3.proofs.Dual3 as method
+use Rattle.dual3.proofs.records as run
 
 -- two answers of one outcome are one
 outcome-one : (x y : Dual3Answer) → outcome x ≡ outcome y → x ≡ y
@@ -88,116 +14,116 @@ outcome-one (Value x) (Refused n) e = cc
 outcome-one (Refused n) (Value x) e = cc
 outcome-one (Refused m) (Refused n) e = cc
 
-pub new-only : Only 0 new-k.ps new-k.r new.Pre new.Post
+pub new-only : Only 0 method.new.Kinds.ps method.new.Kinds.r method.new.Reads.Pre method.new.Reads.Post
 new-only κs a x y v w h p q = (p ∙ sym q, refl)
 
-pub from-re-only : Only 0 from-re-k.ps from-re-k.r from-re.Pre from-re.Post
+pub from-re-only : Only 0 method.«from_re».Kinds.ps method.«from_re».Kinds.r method.«from_re».Reads.Pre method.«from_re».Reads.Post
 from-re-only κs a x y v w h p q = (p ∙ sym q, refl)
 
-pub derivative-only : Only 0 derivative-k.ps derivative-k.r derivative.Pre derivative.Post
+pub derivative-only : Only 0 method.derivative.Kinds.ps method.derivative.Kinds.r method.derivative.Reads.Pre method.derivative.Reads.Post
 derivative-only κs a x y v w h p q = (p ∙ sym q, refl)
 
-pub mul-only : Only 0 mul-k.ps mul-k.r mul.Pre mul.Post
+pub mul-only : Only 0 method.mul.Kinds.ps method.mul.Kinds.r method.mul.Reads.Pre method.mul.Reads.Post
 mul-only κs a x y v w h p q = (p ∙ sym q, refl)
 
-pub div-only : Only 0 div-k.ps div-k.r div.Pre div.Post
+pub div-only : Only 0 method.div.Kinds.ps method.div.Kinds.r method.div.Reads.Pre method.div.Reads.Post
 div-only κs a x y v w h p q = (p ∙ sym q, refl)
 
-pub zero-only : Only 0 zero-k.ps zero-k.r zero.Pre zero.Post
+pub zero-only : Only 0 method.zero.Kinds.ps method.zero.Kinds.r method.zero.Reads.Pre method.zero.Reads.Post
 zero-only κs a x y v w h p q = (p ∙ sym q, refl)
 
-pub is-zero-only : Only 0 is-zero-k.ps is-zero-k.r is-zero.Pre is-zero.Post
+pub is-zero-only : Only 0 method.«is_zero».Kinds.ps method.«is_zero».Kinds.r method.«is_zero».Reads.Pre method.«is_zero».Reads.Post
 is-zero-only κs a x y v w h p q = (p ∙ sym q, refl)
 
-pub one-only : Only 0 one-k.ps one-k.r one.Pre one.Post
+pub one-only : Only 0 method.one.Kinds.ps method.one.Kinds.r method.one.Reads.Pre method.one.Reads.Post
 one-only κs a x y v w h p q = (p ∙ sym q, refl)
 
-pub is-one-only : Only 0 is-one-k.ps is-one-k.r is-one.Pre is-one.Post
+pub is-one-only : Only 0 method.«is_one».Kinds.ps method.«is_one».Kinds.r method.«is_one».Reads.Pre method.«is_one».Reads.Post
 is-one-only κs a x y v w h p q = (p ∙ sym q, refl)
 
-pub nderiv-only : Only 0 nderiv-k.ps nderiv-k.r nderiv.Pre nderiv.Post
+pub nderiv-only : Only 0 method.nderiv.Kinds.ps method.nderiv.Kinds.r method.nderiv.Reads.Pre method.nderiv.Reads.Post
 nderiv-only κs a x y v w h p q = (p ∙ sym q, refl)
 
-pub add-only : Only 0 add-k.ps add-k.r add.Pre add.Post
+pub add-only : Only 0 method.add.Kinds.ps method.add.Kinds.r method.add.Reads.Pre method.add.Reads.Post
 add-only κs a x y v w h p q = (p ∙ sym q, refl)
 
-pub sub-only : Only 0 sub-k.ps sub-k.r sub.Pre sub.Post
+pub sub-only : Only 0 method.sub.Kinds.ps method.sub.Kinds.r method.sub.Reads.Pre method.sub.Reads.Post
 sub-only κs a x y v w h p q = (p ∙ sym q, refl)
 
-pub neg-only : Only 0 neg-k.ps neg-k.r neg.Pre neg.Post
+pub neg-only : Only 0 method.neg.Kinds.ps method.neg.Kinds.r method.neg.Reads.Pre method.neg.Reads.Post
 neg-only κs a x y v w h p q = (p ∙ sym q, refl)
 
-pub mul-float-only : Only 0 mul-float-k.ps mul-float-k.r mul-float.Pre mul-float.Post
+pub mul-float-only : Only 0 method.«mul_float».Kinds.ps method.«mul_float».Kinds.r method.«mul_float».Reads.Pre method.«mul_float».Reads.Post
 mul-float-only κs a x y v w h p q = (p ∙ sym q, refl)
 
-pub div-float-only : Only 0 div-float-k.ps div-float-k.r div-float.Pre div-float.Post
+pub div-float-only : Only 0 method.«div_float».Kinds.ps method.«div_float».Kinds.r method.«div_float».Reads.Pre method.«div_float».Reads.Post
 div-float-only κs a x y v w h p q = (p ∙ sym q, refl)
 
-pub add-float-only : Only 0 add-float-k.ps add-float-k.r add-float.Pre add-float.Post
+pub add-float-only : Only 0 method.«add_float».Kinds.ps method.«add_float».Kinds.r method.«add_float».Reads.Pre method.«add_float».Reads.Post
 add-float-only κs a x y v w h p q = (p ∙ sym q, refl)
 
-pub sub-float-only : Only 0 sub-float-k.ps sub-float-k.r sub-float.Pre sub-float.Post
+pub sub-float-only : Only 0 method.«sub_float».Kinds.ps method.«sub_float».Kinds.r method.«sub_float».Reads.Pre method.«sub_float».Reads.Post
 sub-float-only κs a x y v w h p q = (p ∙ sym q, refl)
 
-pub abs-only : Only 0 abs-k.ps abs-k.r abs.Pre abs.Post
+pub abs-only : Only 0 method.abs.Kinds.ps method.abs.Kinds.r method.abs.Reads.Pre method.abs.Reads.Post
 abs-only κs a x y v w h p q = (p ∙ sym q, refl)
 
-pub abs-sub-only : Only 0 abs-sub-k.ps abs-sub-k.r abs-sub.Pre abs-sub.Post
+pub abs-sub-only : Only 0 method.«abs_sub».Kinds.ps method.«abs_sub».Kinds.r method.«abs_sub».Reads.Pre method.«abs_sub».Reads.Post
 abs-sub-only κs a x y v w h p q = (p ∙ sym q, refl)
 
-pub signum-only : Only 0 signum-k.ps signum-k.r signum.Pre signum.Post
+pub signum-only : Only 0 method.signum.Kinds.ps method.signum.Kinds.r method.signum.Reads.Pre method.signum.Reads.Post
 signum-only κs a x y v w h p q = (p ∙ sym q, refl)
 
-pub is-positive-only : Only 0 is-positive-k.ps is-positive-k.r is-positive.Pre is-positive.Post
+pub is-positive-only : Only 0 method.«is_positive».Kinds.ps method.«is_positive».Kinds.r method.«is_positive».Reads.Pre method.«is_positive».Reads.Post
 is-positive-only κs a x y v w h p q = (p ∙ sym q, refl)
 
-pub is-negative-only : Only 0 is-negative-k.ps is-negative-k.r is-negative.Pre is-negative.Post
+pub is-negative-only : Only 0 method.«is_negative».Kinds.ps method.«is_negative».Kinds.r method.«is_negative».Reads.Pre method.«is_negative».Reads.Post
 is-negative-only κs a x y v w h p q = (p ∙ sym q, refl)
 
-pub eq-only : Only 0 eq-k.ps eq-k.r eq.Pre eq.Post
+pub eq-only : Only 0 method.eq.Kinds.ps method.eq.Kinds.r method.eq.Reads.Pre method.eq.Reads.Post
 eq-only κs a x y v w h p q = (p ∙ sym q, refl)
 
-pub lt-only : Only 0 lt-k.ps lt-k.r lt.Pre lt.Post
+pub lt-only : Only 0 method.lt.Kinds.ps method.lt.Kinds.r method.lt.Reads.Pre method.lt.Reads.Post
 lt-only κs a x y v w h p q = (p ∙ sym q, refl)
 
-pub le-only : Only 0 le-k.ps le-k.r le.Pre le.Post
+pub le-only : Only 0 method.le.Kinds.ps method.le.Kinds.r method.le.Reads.Pre method.le.Reads.Post
 le-only κs a x y v w h p q = (p ∙ sym q, refl)
 
-pub gt-only : Only 0 gt-k.ps gt-k.r gt.Pre gt.Post
+pub gt-only : Only 0 method.gt.Kinds.ps method.gt.Kinds.r method.gt.Reads.Pre method.gt.Reads.Post
 gt-only κs a x y v w h p q = (p ∙ sym q, refl)
 
-pub ge-only : Only 0 ge-k.ps ge-k.r ge.Pre ge.Post
+pub ge-only : Only 0 method.ge.Kinds.ps method.ge.Kinds.r method.ge.Reads.Pre method.ge.Reads.Post
 ge-only κs a x y v w h p q = (p ∙ sym q, refl)
 
-pub scale-only : Only 0 scale-k.ps scale-k.r scale.Pre scale.Post
+pub scale-only : Only 0 method.scale.Kinds.ps method.scale.Kinds.r method.scale.Reads.Pre method.scale.Reads.Post
 scale-only κs a x y v w h p q = (p ∙ sym q, refl)
 
-pub recip-only : Only 0 recip-k.ps recip-k.r recip.Pre recip.Post
+pub recip-only : Only 0 method.recip.Kinds.ps method.recip.Kinds.r method.recip.Reads.Pre method.recip.Reads.Post
 recip-only κs a x y v w h p q = (p ∙ sym q, refl)
 
-pub inv-only : Only 0 inv-k.ps inv-k.r inv.Pre inv.Post
+pub inv-only : Only 0 method.inv.Kinds.ps method.inv.Kinds.r method.inv.Reads.Pre method.inv.Reads.Post
 inv-only κs a x y v w h p q = (p ∙ sym q, refl)
 
-pub sqrt-only : Only 0 sqrt-k.ps sqrt-k.r sqrt.Pre sqrt.Post
+pub sqrt-only : Only 0 method.sqrt.Kinds.ps method.sqrt.Kinds.r method.sqrt.Reads.Pre method.sqrt.Reads.Post
 sqrt-only κs a x y v w h p q = (p ∙ sym q, refl)
 
-pub sin-cos-only : Only 0 sin-cos-k.ps sin-cos-k.r sin-cos.Pre sin-cos.Post
+pub sin-cos-only : Only 0 method.«sin_cos».Kinds.ps method.«sin_cos».Kinds.r method.«sin_cos».Reads.Pre method.«sin_cos».Reads.Post
 sin-cos-only κs a x y v w h p q = (p ∙ sym q, refl)
 
-pub atan2-only : Only 0 atan2-k.ps atan2-k.r atan2.Pre atan2.Post
+pub atan2-only : Only 0 method.atan2.Kinds.ps method.atan2.Kinds.r method.atan2.Reads.Pre method.atan2.Reads.Post
 atan2-only κs a x y v w h p q = (p ∙ sym q, refl)
 
-pub mul-add-only : Only 0 mul-add-k.ps mul-add-k.r mul-add.Pre mul-add.Post
+pub mul-add-only : Only 0 method.«mul_add».Kinds.ps method.«mul_add».Kinds.r method.«mul_add».Reads.Pre method.«mul_add».Reads.Post
 mul-add-only κs a x y v w h p q = (p ∙ sym q, refl)
 
-pub powd-only : Only 0 powd-k.ps powd-k.r powd.Pre powd.Post
+pub powd-only : Only 0 method.powd.Kinds.ps method.powd.Kinds.r method.powd.Reads.Pre method.powd.Reads.Post
 powd-only κs a x y v w h p q = (p ∙ sym q, refl)
 
-pub apply-only : Only 0 apply-k.ps apply-k.r apply.Pre apply.Post
+pub apply-only : Only 0 method.apply.Kinds.ps method.apply.Kinds.r method.apply.Reads.Pre method.apply.Reads.Post
 apply-only κs a x y v w h p q = (outcome-one x y (p ∙ sym q), refl)
 
-pub sum-only : Only 1 sum-k.ps sum-k.r sum.Pre sum.Post
+pub sum-only : Only 1 run.sum.Kinds.ps run.sum.Kinds.r run.sum.Reads.Pre run.sum.Reads.Post
 sum-only κs a x y v w h p q = (outcome-one x y (p ∙ sym q), refl)
 
-pub product-only : Only 1 product-k.ps product-k.r product.Pre product.Post
+pub product-only : Only 1 run.product.Kinds.ps run.product.Kinds.r run.product.Reads.Pre run.product.Reads.Post
 product-only κs a x y v w h p q = (outcome-one x y (p ∙ sym q), refl)

@@ -1,12 +1,9 @@
+-- The body is the series' own operations in its order.
 use Rattle.derivatives.specs.Series.{cbrtSeries}
 use mathlib.Core.Path.{refl}
 use Rattle.derivatives.proofs.Series.cbrt.Statement.{statement}
 use Rattle.derivatives.proofs.Series.cbrt.Tie as tie
 
-returns : tie.Need-returns
-unfolding cbrtSeries
-returns c = refl
-
 pub cbrt-spec : {M : Type 1} → statement M
-cbrt-spec = tie.close (tie.spec
-    returns)
+unfolding cbrtSeries
+cbrt-spec = tie.close (tie.spec (λ c. refl))

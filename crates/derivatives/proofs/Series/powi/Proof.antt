@@ -1,45 +1,18 @@
+-- An exponent within 1024 of zero: every product of it fits an i32, and is read back from its bits as it is (Falling).
 use borrow.Author.Needs.{needs}
 use Rattle.derivatives.specs.Series.{powiSeries}
 use Rattle.derivatives.proofs.Falling.{one-less-fits, two-less-fits, second-fits, third-fits, exp-back, one-less-back, two-less-back, second-back, third-back}
 use Rattle.derivatives.proofs.Series.powi.Statement.{statement}
 use Rattle.derivatives.proofs.Series.powi.Tie as tie
 
-sub-f2 : tie.Need-sub-f2
-sub-f2 c =
-    let e = c .before .args .exp in
-    let h = c .before .pre in
-    rw (exp-back e h) (one-less-fits e h)
-
-mul-f2 : tie.Need-mul-f2
-mul-f2 c =
-    let e = c .before .args .exp in
-    let h = c .before .pre in
-    rw (exp-back e h, one-less-back e h) (second-fits e h)
-
-sub-f3 : tie.Need-sub-f3
-sub-f3 c =
-    let e = c .before .before .args .exp in
-    let h = c .before .before .pre in
-    rw (exp-back e h) (one-less-fits e h)
-
-mul-f3 : tie.Need-mul-f3
-mul-f3 c =
-    let e = c .before .before .args .exp in
-    let h = c .before .before .pre in
-    rw (exp-back e h, one-less-back e h) (second-fits e h)
-
-sub-f3-2 : tie.Need-sub-f3-2
-sub-f3-2 c =
-    let e = c .before .before .args .exp in
-    let h = c .before .before .pre in
-    rw (exp-back e h) (two-less-fits e h)
-
-mul-f3-2 : tie.Need-mul-f3-2
-mul-f3-2 c =
+-- exp (exp - 1) (exp - 2) fits, once its factors are read back
+third : tie.Need-mul-f3-2
+third c =
     let e = c .before .before .args .exp in
     let h = c .before .before .pre in
     rw (exp-back e h, one-less-back e h, second-back e h, two-less-back e h) (third-fits e h)
 
+-- what is read back of each product is the whole number of the rule
 returns : tie.Need-returns
 unfolding powiSeries
 returns c =
@@ -52,12 +25,9 @@ powi-spec =
     tie.close
     (tie.spec
     (λ c. search needs)
-    sub-f2
-    mul-f2
+    (λ c. search (needs, exp-back, one-less-fits)) (λ c. search (needs, exp-back, one-less-back, second-fits))
     (λ c. search needs)
-    sub-f3
-    mul-f3
-    sub-f3-2
-    mul-f3-2
+    (λ c. search (needs, exp-back, one-less-fits)) (λ c. search (needs, exp-back, one-less-back, second-fits)) (λ c. search (needs, exp-back, two-less-fits))
+    third
     (λ c. search needs)
     returns)

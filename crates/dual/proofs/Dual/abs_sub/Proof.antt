@@ -1,15 +1,14 @@
+-- Each way through the tests is a case of the definition: one law a case, over any record (Signs).
 use borrow.Author.Needs.{needs}
+use Rattle.derivatives.proofs.Signs.{abs-sub-above, abs-sub-else}
+use Rattle.dual.specs.Rules.{dualAlgebra}
 use Rattle.dual.proofs.Dual.abs_sub.Statement.{statement}
 use Rattle.dual.proofs.Dual.abs_sub.Tie as tie
 
-returns : tie.Need-returns
-returns c = rw (c .before .if1 .taken) (c .sub .ensures)
-
-returns-2 : tie.Need-returns-2
-returns-2 c = rw (c .if1 .left)
-
 pub abs-sub-spec : {M : Type 1} → statement M
-abs-sub-spec = tie.close (tie.spec
+abs-sub-spec =
+    tie.close
+    (tie.spec
     (λ c κs. search needs)
-    returns
-    returns-2)
+    (λ c. search (needs, abs-sub-above dualAlgebra))
+    (λ c. search (needs, abs-sub-else dualAlgebra)))

@@ -1,12 +1,9 @@
+-- The body is the rule's own operations in its order.
 use mathlib.Core.Path.{refl}
 use Rattle.dual.specs.Rules.{dualChain}
 use Rattle.dual.proofs.Dual.chain_rule.Statement.{statement}
 use Rattle.dual.proofs.Dual.chain_rule.Tie as tie
 
-returns : tie.Need-returns
-unfolding dualChain
-returns c = refl
-
 pub chain-rule-spec : {M : Type 1} → statement M
-chain-rule-spec = tie.close (tie.spec
-    returns)
+unfolding dualChain
+chain-rule-spec = tie.close (tie.spec (λ c. refl))

@@ -1,3 +1,4 @@
+-- What the calls promise, put together, is the definition.
 use borrow.Author.Needs.{needs}
 use Rattle.dual.proofs.Dual.sqrt.Statement.{statement}
 use Rattle.dual.proofs.Dual.sqrt.Tie as tie

@@ -1,15 +1,14 @@
+-- Each way through the tests is a case of the definition: one law a case, over any record (Signs).
 use borrow.Author.Needs.{needs}
+use Rattle.derivatives.proofs.Signs.{abs-negative, abs-positive}
+use Rattle.dual2.specs.Rules.{dual2Algebra}
 use Rattle.dual2.proofs.Dual2.abs.Statement.{statement}
 use Rattle.dual2.proofs.Dual2.abs.Tie as tie
 
-returns : tie.Need-returns
-returns c = rw (← c .before .before .is-negative .ensures, c .before .if1 .taken) (c .neg .ensures)
-
-returns-2 : tie.Need-returns-2
-returns-2 c = rw (← c .before .is-negative .ensures, c .if1 .left)
-
 pub abs-spec : {M : Type 1} → statement M
-abs-spec = tie.close (tie.spec
+abs-spec =
+    tie.close
+    (tie.spec
     (λ c κs. search needs) (λ c κs. search needs)
-    returns
-    returns-2)
+    (λ c. search (needs, abs-negative dual2Algebra))
+    (λ c. search (needs, abs-positive dual2Algebra)))

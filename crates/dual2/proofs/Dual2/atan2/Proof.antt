@@ -1,3 +1,4 @@
+-- What the calls promise, put together, is the definition.
 use borrow.Author.Needs.{needs}
 use Rattle.dual2.proofs.Dual2.atan2.Statement.{statement}
 use Rattle.dual2.proofs.Dual2.atan2.Tie as tie

@@ -1,3 +1,4 @@
+-- What the calls promise, put together, is the definition.
 use borrow.Author.Needs.{needs}
 use Rattle.dual3.proofs.Dual3.sqrt.Statement.{statement}
 use Rattle.dual3.proofs.Dual3.sqrt.Tie as tie

@@ -1,12 +1,9 @@
+-- The body is the rule's own operations in its order.
 use mathlib.Core.Path.{refl}
 use Rattle.hyperdual.specs.Rules.{hyperDualDivFloat}
 use Rattle.hyperdual.proofs.HyperDual.div_float.Statement.{statement}
 use Rattle.hyperdual.proofs.HyperDual.div_float.Tie as tie
 
-returns : tie.Need-returns
-unfolding hyperDualDivFloat
-returns c = refl
-
 pub div-float-spec : {M : Type 1} → statement M
-div-float-spec = tie.close (tie.spec
-    returns)
+unfolding hyperDualDivFloat
+div-float-spec = tie.close (tie.spec (λ c. refl))

@@ -1,3 +1,4 @@
+-- What the calls promise, put together, is the definition.
 use borrow.Author.Needs.{needs}
 use Rattle.hyperdual.proofs.HyperDual.sin_cos.Statement.{statement}
 use Rattle.hyperdual.proofs.HyperDual.sin_cos.Tie as tie

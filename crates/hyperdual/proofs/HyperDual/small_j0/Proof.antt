@@ -1,3 +1,4 @@
+-- What the calls promise, put together, is the definition.
 use borrow.Author.Needs.{needs}
 use Rattle.hyperdual.proofs.HyperDual.small_j0.Statement.{statement}
 use Rattle.hyperdual.proofs.HyperDual.small_j0.Tie as tie

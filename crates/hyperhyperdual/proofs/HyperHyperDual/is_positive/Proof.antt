@@ -1,3 +1,4 @@
+-- What the calls promise, put together, is the definition.
 use borrow.Author.Needs.{needs}
 use Rattle.hyperhyperdual.proofs.HyperHyperDual.is_positive.Statement.{statement}
 use Rattle.hyperhyperdual.proofs.HyperHyperDual.is_positive.Tie as tie

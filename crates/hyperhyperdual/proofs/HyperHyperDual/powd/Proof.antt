@@ -1,3 +1,4 @@
+-- What the calls promise, put together, is the definition.
 use borrow.Author.Needs.{needs}
 use Rattle.hyperhyperdual.proofs.HyperHyperDual.powd.Statement.{statement}
 use Rattle.hyperhyperdual.proofs.HyperHyperDual.powd.Tie as tie
