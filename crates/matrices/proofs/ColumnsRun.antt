@@ -14,27 +14,31 @@ use Rattle.algebra.proofs.Flat.{tabulate-length}
 use Rattle.algebra.proofs.Loop.{upto-turn, upto-end}
 use Rattle.algebra.proofs.Laws.{Laws}
 use Rattle.matrices.specs.Entries.{luAnswered, luFinish}
-use Rattle.matrices.specs.Lu.{going, reduce, reduceRun, column, countUp, luOf}
+use Rattle.matrices.specs.Lu.{going, reduce, reduceRun, column, countUp, luOf, bringPivotFlat}
 use Rattle.matrices.specs.Matrix.{Square}
 use Rattle.matrices.specs.RunAfter.{runAfter, swapsOf}
 use Rattle.matrices.specs.declared.AfterColumn.{AfterColumn}
 use Rattle.matrices.specs.declared.AfterColumn.the-variants.{Singular, Going}
 use Rattle.matrices.proofs.Answers.{finish-done, finish-singular}
 use Rattle.matrices.proofs.Lu.{run-stops}
+use Rattle.matrices.proofs.RowsOfRecords.{column-by}
 
 module _ {R : Type 0} {A : Algebra R} {L : Layout R} (Q : Laws A L) where
   -- ---- a column: what the pivot's search left, then the rows below
 
-  pub column-stops : (n i : ℕ) (a a′ : List Float) (p p′ : List ℕ) (swaps : ℕ) (r : AfterColumn) (c : ℕ)
-      → column A n i (going (decode L a) p swaps) ≡ reduceRun A n i (runAfter r (decode L a′) p′) → r ≡ Singular c → column A n i (going (decode L a) p swaps) ≡ runAfter r (decode L a′) p′
-  column-stops n i a a′ p p′ swaps r c e t =
-      e ∙ ap (λ (s : AfterColumn). reduceRun A n i (runAfter s (decode L a′) p′)) t ∙ sym (ap (λ (s : AfterColumn). runAfter s (decode L a′) p′) t)
+  module _ (n i : ℕ) (a a′ : List Float) (p p′ : List ℕ) (swaps : ℕ) (r : AfterColumn) (square : Square (L .width) n a) (h : i < n) (brought : runAfter r a′ p′ ≡ bringPivotFlat (L .width) n i a p swaps) where
+    found : column A n i (going (decode L a) p swaps) ≡ reduceRun A n i (runAfter r (decode L a′) p′)
+    found = column-by L (Q .lawful) n a square A (Q .real) (Q .agrees) i p swaps h r a′ p′ brought
 
-  pub column-goes : (n i : ℕ) (a a′ a″ : List Float) (p p′ : List ℕ) (swaps t : ℕ) (r : AfterColumn)
-      → column A n i (going (decode L a) p swaps) ≡ reduceRun A n i (runAfter r (decode L a′) p′) → r ≡ Going t → decode L a″ ≡ reduce A n i (decode L a′)
-      → column A n i (going (decode L a) p swaps) ≡ going (decode L a″) p′ t
-  column-goes n i a a′ a″ p p′ swaps t r e g d =
-      e ∙ ap (λ (s : AfterColumn). reduceRun A n i (runAfter s (decode L a′) p′)) g ∙ ap (λ (m : List R). going m p′ t) (sym d)
+    pub column-stops : (c : ℕ) → r ≡ Singular c → column A n i (going (decode L a) p swaps) ≡ runAfter r (decode L a′) p′
+    column-stops c t =
+        found ∙ ap (λ (s : AfterColumn). reduceRun A n i (runAfter s (decode L a′) p′)) t ∙ sym (ap (λ (s : AfterColumn). runAfter s (decode L a′) p′) t)
+
+    pub column-goes : (a″ : List Float) (t : ℕ) → r ≡ Going t → decode L a″ ≡ reduce A n i (decode L a′) → column A n i (going (decode L a) p swaps) ≡ going (decode L a″) p′ t
+    column-goes a″ t g d = found ∙ ap (λ (s : AfterColumn). reduceRun A n i (runAfter s (decode L a′) p′)) g ∙ ap (λ (m : List R). going m p′ t) (sym d)
+
+  pub few-swaps : (r : AfterColumn) (t k : ℕ) → r ≡ Going t → swapsOf r ≤ k → t ≤ k
+  few-swaps r t k g h = omega (arith, ap swapsOf g)
 
   -- ---- the columns: before column i, what is left to run gives the whole
 
@@ -73,6 +77,9 @@ module _ {R : Type 0} {A : Algebra R} {L : Layout R} (Q : Laws A L) where
   columns-end n a₀ a order₀ order swaps i c h = sym (upto-end i n (column A n) (going (decode L a) order swaps) h (c .rest))
 
   -- ---- LU whole: a copy, the order counted up, the columns, and both buffers cleared where it is singular
+
+  pub counted-up : (n : ℕ) (o q : List ℕ) → q ≡ countUp (length o) → length o ≡ n → q ≡ countUp n
+  counted-up n o q e h = e ∙ ap countUp h
 
   module _ (n : ℕ) (a f l m : List Float) (o q p : List ℕ) (r : AfterColumn) (square : Square (L .width) n f) (long : length o ≡ n)
       (copied : l ≡ a) (ran : luOf A n (decode L l) ≡ runAfter r (decode L m) p) (kept : length l ≡ length f) (held : length m ≡ length l) (same-order : length q ≡ length o) (ordered : length p ≡ length q) where

@@ -11,5 +11,6 @@ determinant-spec =
     (tie.spec
     (λ c κs. search needs)
     (λ c. search (needs, determinant-unfit dual-laws))
+    -- the number is 0: the lengths are the wanted ones
     (λ c κs. determinant-allowed dual-laws _ _ _ _ (c .before .determinant .ensures) (c .if1 .left))
     (λ c. search needs))

@@ -14,6 +14,7 @@ lu-spec =
     (tie.spec
     (λ c κs. search needs)
     (λ c. search (needs, lu-refused dualAlgebra dualLayout))
+    -- the number is 0: the lengths are the wanted ones
     (λ c κs. lu-allowed dual-laws _ _ _ (now (c .before .before .before .before .before .before .before .args .order)) _ (c .before .before .before .lu .ensures) (c .before .before .if1 .left))
     (λ c. search needs) (λ c. search needs)
     (λ c. search (needs, lu-answers dual-laws)))

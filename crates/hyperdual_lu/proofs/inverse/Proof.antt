@@ -13,6 +13,7 @@ inverse-spec =
     (tie.spec
     (λ c κs. search needs)
     (λ c. search (needs, inverse-refused hyperDualAlgebra hyperDualLayout))
+    -- the number is 0: the lengths are the wanted ones, the order is one
     (λ c κs. inverse-allowed hyper-dual-laws _ _ _ _ _ (c .before .before .inverse .ensures) (c .before .if1 .left))
     (λ c. search needs)
     (λ c. search (needs, inverse-answers hyper-dual-laws)))

@@ -14,6 +14,7 @@ solve-spec =
     (tie.spec
     (λ c κs. search needs)
     (λ c. search (needs, solve-refused hyperDualAlgebra hyperDualLayout))
+    -- the number is 0: the lengths are the wanted ones, the order is one
     (λ c κs. let s = c .before .before .before .before .before .before .before .args in solve-allowed hyper-dual-laws _ _ _ (now (s .b)) (now (s .x)) _ (c .before .before .solve .ensures) (c .before .if1 .left))
     (λ c. search needs)
     (λ c. search (needs, solve-answers hyper-dual-laws)))

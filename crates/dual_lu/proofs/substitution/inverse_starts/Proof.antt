@@ -32,8 +32,7 @@ inverse-starts-spec =
     (tie.spec Inv-loop μ-loop
     (λ c κs. search needs)
     (λ c. search (needs, ones-start dual-laws))
-    (λ c. omega (arith, c .before .before .before .before .before .before .before .before .pre .0 .size))
-    (λ c. omega (arith, c .before .before .before .before .before .before .before .before .before .pre .0 .size))
+    (λ c. search needs) (λ c. search needs)
     (λ c. omega (arith, known (c .before .before)))
     (λ c. omega (arith, known (c .before .before)))
     (λ c κs. omega (arith, known (c .before .before)))

@@ -28,8 +28,7 @@ solve-starts-spec =
     tie.close
     (tie.spec Inv-loop μ-loop
     (λ c. starting dual-laws _ _)
-    (λ c. omega (arith, c .before .before .before .before .before .pre .0 .size))
-    (λ c. omega (arith, c .before .before .before .before .before .before .pre .0 .size))
+    (λ c. search needs) (λ c. search needs)
     read-requires
     (λ c κs. search needs) (λ c. search needs) (λ c. search needs)
     (λ c. search (needs, start-turn dual-laws))

@@ -15,7 +15,7 @@ Inv-loop n a o swaps m₀ x₀ i₀ m x i = Walking hyper-dual-laws n a o m x i
 abbrev μ-loop : tie.MeasureT-loop
 μ-loop n a o swaps m₀ x₀ i₀ m x i = n - i
 
--- the row of the turn
+-- the diagonal's record stands in the row of the turn
 row : (c : tie.In-loop Inv-loop μ-loop) → let s = c .before .before .before .before .args in RowPlace 4 (s .n) (c .before .loop .i) (now (s .a))
 row c = row-place 4 _ _ _ (c .before .before .before .before .pre .0) (c .loop-test .taken)
 
@@ -31,6 +31,7 @@ determinant-of-spec =
     (λ c. let t = row (c .before .before .before) in search needs)
     (λ c κs. let t = row (c .before .before .before) in search needs)
     (λ c κs. search needs) (λ c. search needs) (λ c. search needs)
+    -- one entry marked, one record multiplied
     (λ c. walk-turn hyper-dual-laws (c .before .before .before .before .before .before .loop .inv) _ _ _ (search needs) (search needs) (search needs) (search needs) (search needs) (c .before .read .ensures) (search needs))
     (λ c κs. search needs)
     (λ c. search (needs, walk-refused hyper-dual-laws))

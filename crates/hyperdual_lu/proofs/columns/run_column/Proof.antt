@@ -1,38 +1,15 @@
 -- The pivot brought up in floats is the definition's; each way out is one of the column's (ColumnsRun).
 use borrow.Author.Needs.{needs}
-use mathlib.Core.Path.{_≡_, ap}
-use native.Mathlib.Omega.{arith}
-use denote.Ref.{now}
-use Rattle.algebra.specs.Flat.{decode}
-use Rattle.hyperdual.specs.Rules.{hyperDualAlgebra, hyperDualLayout}
-use Rattle.matrices.specs.Lu.{going, reduceRun, column}
-use Rattle.matrices.specs.RunAfter.{runAfter, swapsOf}
-use Rattle.matrices.proofs.RowsOfRecords.{column-by}
-use Rattle.matrices.proofs.ColumnsRun.{column-stops, column-goes}
+use Rattle.matrices.proofs.ColumnsRun.{column-stops, column-goes, few-swaps}
 use Rattle.hyperdual.proofs.Flat.{hyper-dual-laws}
 use Rattle.hyperdual_lu.proofs.columns.run_column.Statement.{statement}
 use Rattle.hyperdual_lu.proofs.columns.run_column.Tie as tie
-
--- the column, from what the pivot's search left
-by : (c : tie.After-bring-pivot) → let s = c .before .before .before .before .before .args in
-    column hyperDualAlgebra (s .n) (s .i) (going (decode hyperDualLayout (now (s .a))) (now (s .order)) (s .swaps)) ≡ reduceRun hyperDualAlgebra (s .n) (s .i) (runAfter (c .bring-pivot .result) (decode hyperDualLayout (c .bring-pivot .last .1 .1 .0)) (c .bring-pivot .last .1 .1 .1 .0))
-by c =
-    let s = c .before .before .before .before .before in
-    column-by hyperDualLayout (hyper-dual-laws .lawful) (s .args .n) (now (s .args .a)) (s .pre .0) hyperDualAlgebra (hyper-dual-laws .real) (hyper-dual-laws .agrees) (s .args .i) (now (s .args .order)) (s .args .swaps) (s .pre .1 .1 .0) (c .bring-pivot .result) _ _ (c .bring-pivot .ensures .1)
-
-returns : tie.Need-returns
-returns c = (search needs, column-stops hyper-dual-laws _ _ _ _ _ _ _ _ _ (by (c .before .before .before .before .before .before)) (c .enum-told .given .1))
-
-returns-2 : tie.Need-returns-2
-returns-2 c =
-    let told = c .before .before .before .before .before .s .given in
-    (omega (arith, ap swapsOf (told .1)), column-goes hyper-dual-laws _ _ _ _ _ _ _ _ _ _ (by (c .before .before .before .before .before .before .before .before .before .before .before)) (told .1) (c .before .before .reduce-rows .ensures))
 
 pub run-column-spec : {M : Type 1} → statement M
 run-column-spec =
     tie.close
     (tie.spec
     (λ c κs. search needs) (λ c. search needs) (λ c. search needs) (λ c. search needs) (λ c. search needs)
-    returns
+    (λ c. search (needs, column-stops hyper-dual-laws))
     (λ c κs. search needs) (λ c. search needs) (λ c. search needs)
-    returns-2)
+    (λ c. search (needs, few-swaps hyper-dual-laws, column-goes hyper-dual-laws)))
