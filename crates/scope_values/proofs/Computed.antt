@@ -17,7 +17,7 @@ use Rattle.rotations.specs.Rotation as turn
 use Rattle.jacobi.specs.Sweeps as sweeps
 use Rattle.jacobi.specs.Sort as sort
 use Rattle.jacobi.specs.Entry.{jacobiLeft}
-use Rattle.values.specs.Table.{same, every, table}
+use Rattle.scope_values.specs.Table.{same, every, table}
 
 pub values : T (every table)
 unfolding same every table ofBits toBits add sub mul div neg lt le eq ofInt rootOf signOf absOf turns upto tabulate decode encode recipSeries powiSeries sqrtSeries dualChain dualMul dualDiv dualAdd dualSub dualNeg dualMulFloat dual3Chain exchange exchangeRows cell store better bringPivot pivotOf subtract reduceRow reduce column luOf diagonalProduct determinantOf absent isOrder oddBelow parity isOdd luLeft solveLeft inverseLeft determinantLeft turn.absorbed turn.choiceOf turn.hypotenuseOf turn.tangentOf turn.rotationTangent turn.angleBy turn.turnedFirst turn.turnedSecond turn.shift turn.turn turn.turnColumns turn.turnBetween turn.turnRows turn.turnAbove turn.rotate turn.act turn.pair sweeps.addSquare sweeps.columnSquares sweeps.sumOfSquares sweeps.thresholdOf sweeps.row sweeps.sweep sweeps.addItem sweeps.addAll sweeps.closeSweep sweeps.step sweeps.putOne sweeps.identity sweeps.putDiagonal sweeps.diagonal sweeps.start sweeps.sweepsOf sort.smaller sort.least sort.exchangeInRow sort.exchangeColumns sort.bringSmallest sort.select sort.sort sort.ordered sort.jacobiOf jacobiLeft

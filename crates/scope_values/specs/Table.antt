@@ -1,4 +1,4 @@
--- Document 01's values P1 to P12 as one table: in each row what the definitions give, and what the document says, as numbers. A float is its word.
+-- Document 01's values P1 to P12 as one table: in each claim what the definitions give, and what the document says, as numbers. A float is its word.
 -- Definitions only.
 use Prim.Native.Nat.{ℕ, _*_}
 use mathlib.Core.Bool.{Bool, true, false, _&&_}
@@ -21,12 +21,12 @@ use Rattle.matrices.specs.Entries.{LuLeft, SolveLeft, luLeft, solveLeft, invers
 use Rattle.jacobi.specs.Entry.{JacobiLeft, jacobiLeft}
 
 -- what is got, and what is wanted
-pub record Row : Type 0 where
+pub record Claim : Type 0 where
   pub got : List ℕ
   pub wanted : List ℕ
 
-abbrev pub row : List ℕ → List ℕ → Row
-row got wanted = record { got = got; wanted = wanted }
+abbrev pub claim : List ℕ → List ℕ → Claim
+claim got wanted = record { got = got; wanted = wanted }
 
 -- two lists of numbers are equal
 unfoldable pub same : List ℕ → List ℕ → Bool
@@ -35,8 +35,8 @@ same [] (y ∷ m) = false
 same (x ∷ l) [] = false
 same (x ∷ l) (y ∷ m) = eqb x y && same l m
 
--- every row gives what is wanted
-unfoldable pub every : List Row → Bool
+-- every claim gives what is wanted
+unfoldable pub every : List Claim → Bool
 every [] = true
 every (r ∷ t) = same (r .got) (r .wanted) && every t
 
@@ -102,39 +102,39 @@ abbrev pub jacobiOfZeros : ℕ → JacobiLeft
 jacobiOfZeros n = jacobiLeft dualAlgebra dualLayout n (replicate (n * n * 2) float.zero) 200 (replicate (n * 2) fortyNine) (replicate (n * n * 2) fortyNine)
 
 -- P1 to P12, then the two unmarked values of Jacobi
-unfoldable pub table : List Row
+unfoldable pub table : List Claim
 table =
     -- P1: the factors of the listing: one swap, order 1 0
-    row (luWords-of 2 8 (0 ∷ 0x3ff0_0000_0000_0000 ∷ 0x4000_0000_0000_0000 ∷ 0 ∷ 0x3ff0_0000_0000_0000 ∷ 0 ∷ 0 ∷ 0 ∷ []))
+    claim (luWords-of 2 8 (0 ∷ 0x3ff0_0000_0000_0000 ∷ 0x4000_0000_0000_0000 ∷ 0 ∷ 0x3ff0_0000_0000_0000 ∷ 0 ∷ 0 ∷ 0 ∷ []))
     (0 ∷ 1 ∷ 0 ∷ 1 ∷ 0 ∷ 0x3ff0_0000_0000_0000 ∷ 0 ∷ 0 ∷ 0 ∷ 0 ∷ 0x3ff0_0000_0000_0000 ∷ 0x4000_0000_0000_0000 ∷ 0 ∷ [])
     -- P2: (49, 0) / (49, 0) has real part below 1
-    ∷ row (toBits binary64 (dualDiv (dual fortyNine float.zero) (dual fortyNine float.zero) .re) ∷ []) (0x3fef_ffff_ffff_ffff ∷ [])
+    ∷ claim (toBits binary64 (dualDiv (dual fortyNine float.zero) (dual fortyNine float.zero) .re) ∷ []) (0x3fef_ffff_ffff_ffff ∷ [])
     -- P3: [[49,49],[49,49]] keeps row 0; the last pivot is 2^-47
-    ∷ row (luWords-of 2 8 (0x4048_8000_0000_0000 ∷ 0 ∷ 0x4048_8000_0000_0000 ∷ 0 ∷ 0x4048_8000_0000_0000 ∷ 0 ∷ 0x4048_8000_0000_0000 ∷ 0 ∷ []))
+    ∷ claim (luWords-of 2 8 (0x4048_8000_0000_0000 ∷ 0 ∷ 0x4048_8000_0000_0000 ∷ 0 ∷ 0x4048_8000_0000_0000 ∷ 0 ∷ 0x4048_8000_0000_0000 ∷ 0 ∷ []))
     (0 ∷ 0 ∷ 0 ∷ 0 ∷ 1 ∷ 0x4048_8000_0000_0000 ∷ 0 ∷ 0x4048_8000_0000_0000 ∷ 0 ∷ 0x3fef_ffff_ffff_ffff ∷ 0 ∷ 0x3d00_0000_0000_0000 ∷ 0 ∷ [])
     -- P4: [[1,2],[1,2]] is refused 6, column 1; both buffers zero
-    ∷ row (luWords-of 2 8 (0x3ff0_0000_0000_0000 ∷ 0 ∷ 0x4000_0000_0000_0000 ∷ 0 ∷ 0x3ff0_0000_0000_0000 ∷ 0 ∷ 0x4000_0000_0000_0000 ∷ 0 ∷ []))
+    ∷ claim (luWords-of 2 8 (0x3ff0_0000_0000_0000 ∷ 0 ∷ 0x4000_0000_0000_0000 ∷ 0 ∷ 0x3ff0_0000_0000_0000 ∷ 0 ∷ 0x4000_0000_0000_0000 ∷ 0 ∷ []))
     (6 ∷ 0 ∷ 1 ∷ 0 ∷ 0 ∷ 0 ∷ 0 ∷ 0 ∷ 0 ∷ 0 ∷ 0 ∷ 0 ∷ 0 ∷ [])
     -- P5: the 1 by 1 matrix (0, 1) is refused 6, column 0
-    ∷ row (luWords-of 1 2 (0 ∷ 0x3ff0_0000_0000_0000 ∷ [])) (6 ∷ 0 ∷ 0 ∷ 0 ∷ 0 ∷ 0 ∷ [])
+    ∷ claim (luWords-of 1 2 (0 ∷ 0x3ff0_0000_0000_0000 ∷ [])) (6 ∷ 0 ∷ 0 ∷ 0 ∷ 0 ∷ 0 ∷ [])
     -- P6: n = 0: LU gives 0 with no swaps, determinant (1, 0); Jacobi gives 3
-    ∷ row (luWords-of 0 0 []) (0 ∷ 0 ∷ 0 ∷ [])
-    ∷ row (dualWords (determinantLeft dualAlgebra dualLayout 0 [] [] 0)) (0 ∷ 0x3ff0_0000_0000_0000 ∷ 0 ∷ [])
-    ∷ row (jacobiWords (jacobiLeft dualAlgebra dualLayout 0 [] 200 [] [])) (3 ∷ 0 ∷ [])
+    ∷ claim (luWords-of 0 0 []) (0 ∷ 0 ∷ 0 ∷ [])
+    ∷ claim (dualWords (determinantLeft dualAlgebra dualLayout 0 [] [] 0)) (0 ∷ 0x3ff0_0000_0000_0000 ∷ 0 ∷ [])
+    ∷ claim (jacobiWords (jacobiLeft dualAlgebra dualLayout 0 [] 200 [] [])) (3 ∷ 0 ∷ [])
     -- P7: n = 32 passes the size check: LU of 2,048 zeros is refused 6, column 0, both buffers zero, and the other entries are done; 33 gives 1, nothing written
-    ∷ row (luWords-of 32 2048 (replicate 2048 0)) (6 ∷ 0 ∷ 0 ∷ replicate 32 0 ++ replicate 2048 0)
-    ∷ row (numberOf (solveOfZeros 32 .answer) ∷ numberOf (inverseOfZeros 32 .answer) ∷ numberOf (determinantOfZeros 32) ∷ numberOf (jacobiOfZeros 32 .answer) ∷ []) (0 ∷ 0 ∷ 0 ∷ 0 ∷ [])
-    ∷ row (luWords-of 33 2178 (replicate 2178 0)) (1 ∷ 0 ∷ 0 ∷ replicate 33 7 ++ replicate 2178 0x4048_8000_0000_0000)
-    ∷ row (solveWords (solveOfZeros 33)) (1 ∷ replicate 66 0x4048_8000_0000_0000)
-    ∷ row (solveWords (inverseOfZeros 33)) (1 ∷ replicate 2178 0x4048_8000_0000_0000)
-    ∷ row (dualWords (determinantOfZeros 33)) (1 ∷ [])
-    ∷ row (jacobiWords (jacobiOfZeros 33)) (1 ∷ 0 ∷ replicate 66 0x4048_8000_0000_0000 ++ replicate 2178 0x4048_8000_0000_0000)
+    ∷ claim (luWords-of 32 2048 (replicate 2048 0)) (6 ∷ 0 ∷ 0 ∷ replicate 32 0 ++ replicate 2048 0)
+    ∷ claim (numberOf (solveOfZeros 32 .answer) ∷ numberOf (inverseOfZeros 32 .answer) ∷ numberOf (determinantOfZeros 32) ∷ numberOf (jacobiOfZeros 32 .answer) ∷ []) (0 ∷ 0 ∷ 0 ∷ 0 ∷ [])
+    ∷ claim (luWords-of 33 2178 (replicate 2178 0)) (1 ∷ 0 ∷ 0 ∷ replicate 33 7 ++ replicate 2178 0x4048_8000_0000_0000)
+    ∷ claim (solveWords (solveOfZeros 33)) (1 ∷ replicate 66 0x4048_8000_0000_0000)
+    ∷ claim (solveWords (inverseOfZeros 33)) (1 ∷ replicate 2178 0x4048_8000_0000_0000)
+    ∷ claim (dualWords (determinantOfZeros 33)) (1 ∷ [])
+    ∷ claim (jacobiWords (jacobiOfZeros 33)) (1 ∷ 0 ∷ replicate 66 0x4048_8000_0000_0000 ++ replicate 2178 0x4048_8000_0000_0000)
     -- P8: (5,1) powi 2 is (25,10); `Dual3` (5,1,0,0) powi 3 with 1 supplied is (125,75,30,6)
-    ∷ row (dualWords (apply.applyOf dualAlgebra (dual five float.one) (Powi (pos 2) float.one))) (0 ∷ 0x4039_0000_0000_0000 ∷ 0x4024_0000_0000_0000 ∷ [])
-    ∷ row (dual3Words (apply.applyOf dual3Algebra (dual3 five float.one float.zero float.zero) (Powi (pos 3) float.one)))
+    ∷ claim (dualWords (apply.applyOf dualAlgebra (dual five float.one) (Powi (pos 2) float.one))) (0 ∷ 0x4039_0000_0000_0000 ∷ 0x4024_0000_0000_0000 ∷ [])
+    ∷ claim (dual3Words (apply.applyOf dual3Algebra (dual3 five float.one float.zero float.zero) (Powi (pos 3) float.one)))
     (0 ∷ 0x405f_4000_0000_0000 ∷ 0x4052_c000_0000_0000 ∷ 0x403e_0000_0000_0000 ∷ 0x4018_0000_0000_0000 ∷ [])
     -- P9: exponent 1,024 accepted, 1,025 and -1,025 give 5
-    ∷ row (
+    ∷ claim (
     numberOf (apply.applyOf dualAlgebra (dual five float.one) (Powi (pos 1024) float.one))
     ∷ numberOf (apply.applyOf dualAlgebra (dual five float.one) (Powi (negsuc 1023) float.one))
     ∷ numberOf (apply.applyOf dualAlgebra (dual five float.one) (Powi (pos 1025) float.one))
@@ -142,16 +142,16 @@ table =
     )
     (0 ∷ 0 ∷ 5 ∷ 5 ∷ [])
     -- P10: root of 2^-1074 is 2^-537; root of -0 is -0
-    ∷ row (words (map sqrtOf (floats (1 ∷ 0x8000_0000_0000_0000 ∷ [])))) (0x1e60_0000_0000_0000 ∷ 0x8000_0000_0000_0000 ∷ [])
+    ∷ claim (words (map sqrtOf (floats (1 ∷ 0x8000_0000_0000_0000 ∷ [])))) (0x1e60_0000_0000_0000 ∷ 0x8000_0000_0000_0000 ∷ [])
     -- P11: sqrt of (0, 1) is 0 with a NaN derivative
-    ∷ row (dualWords (value (apply.sqrtOf dualAlgebra (dual float.zero float.one)))) (0 ∷ 0 ∷ 0x7ff8_0000_0000_0000 ∷ [])
+    ∷ claim (dualWords (value (apply.sqrtOf dualAlgebra (dual float.zero float.one)))) (0 ∷ 0 ∷ 0x7ff8_0000_0000_0000 ∷ [])
     -- P12: diagonal 3, 1: no sweep, eigenvalues 1, 3, columns exchanged
-    ∷ row (jacobiWords-of (0x4008_0000_0000_0000 ∷ 0 ∷ 0 ∷ 0 ∷ 0 ∷ 0 ∷ 0x3ff0_0000_0000_0000 ∷ 0 ∷ []))
+    ∷ claim (jacobiWords-of (0x4008_0000_0000_0000 ∷ 0 ∷ 0 ∷ 0 ∷ 0 ∷ 0 ∷ 0x3ff0_0000_0000_0000 ∷ 0 ∷ []))
     (0 ∷ 0 ∷ 0x3ff0_0000_0000_0000 ∷ 0 ∷ 0x4008_0000_0000_0000 ∷ 0 ∷ 0 ∷ 0 ∷ 0x3ff0_0000_0000_0000 ∷ 0 ∷ 0x3ff0_0000_0000_0000 ∷ 0 ∷ 0 ∷ 0 ∷ [])
     -- [[2,1],[99,2]]: one sweep, eigenvalues 1, 3; the 99 is not read
-    ∷ row (jacobiWords-of (0x4000_0000_0000_0000 ∷ 0 ∷ 0x3ff0_0000_0000_0000 ∷ 0 ∷ 0x4058_c000_0000_0000 ∷ 0 ∷ 0x4000_0000_0000_0000 ∷ 0 ∷ []))
+    ∷ claim (jacobiWords-of (0x4000_0000_0000_0000 ∷ 0 ∷ 0x3ff0_0000_0000_0000 ∷ 0 ∷ 0x4058_c000_0000_0000 ∷ 0 ∷ 0x4000_0000_0000_0000 ∷ 0 ∷ []))
     (0 ∷ 1 ∷ 0x3ff0_0000_0000_0000 ∷ 0 ∷ 0x4008_0000_0000_0000 ∷ 0 ∷ 0x3fe6_a09e_667f_3bcd ∷ 0 ∷ 0x3fe6_a09e_667f_3bcc ∷ 0 ∷ 0xbfe6_a09e_667f_3bcc ∷ 0 ∷ 0x3fe6_a09e_667f_3bcd ∷ 0 ∷ [])
     -- [[1, 2^-600],[2^-600, 2]]: the square vanishes, no sweep, eigenvalues 1, 2
-    ∷ row (jacobiWords-of (0x3ff0_0000_0000_0000 ∷ 0 ∷ 0x1a70_0000_0000_0000 ∷ 0 ∷ 0x1a70_0000_0000_0000 ∷ 0 ∷ 0x4000_0000_0000_0000 ∷ 0 ∷ []))
+    ∷ claim (jacobiWords-of (0x3ff0_0000_0000_0000 ∷ 0 ∷ 0x1a70_0000_0000_0000 ∷ 0 ∷ 0x1a70_0000_0000_0000 ∷ 0 ∷ 0x4000_0000_0000_0000 ∷ 0 ∷ []))
     (0 ∷ 0 ∷ 0x3ff0_0000_0000_0000 ∷ 0 ∷ 0x4000_0000_0000_0000 ∷ 0 ∷ 0x3ff0_0000_0000_0000 ∷ 0 ∷ 0 ∷ 0 ∷ 0 ∷ 0 ∷ 0x3ff0_0000_0000_0000 ∷ 0 ∷ [])
     ∷ []
