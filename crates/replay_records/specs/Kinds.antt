@@ -28,6 +28,16 @@ byKind f Dual3 = f _ dual3Kind
 byKind f HyperDual = f _ hyperDualKind
 byKind f HyperHyperDual = f _ hyperHyperDualKind
 
+-- what the call of a function, the sum and the product of a run leave
+abbrev pub calledBy : Kind → ℕ → ℤ → List ℕ → List ℕ → List ℕ → ℕ × List ℕ
+calledBy kind function exponent records floats out = byKind (λ R K. calledOf K function exponent records floats out) kind
+
+abbrev pub summedBy : Kind → List Float → List Float → ℕ × List Float
+summedBy kind run out = byKind (λ R K. summedOf K run out) kind
+
+abbrev pub multipliedBy : Kind → List Float → List Float → ℕ × List Float
+multipliedBy kind run out = byKind (λ R K. multipliedOf K run out) kind
+
 -- how many derivatives a record carries
 abbrev pub nderivOf : Kind → ℕ
 nderivOf Dual = 1
@@ -40,13 +50,13 @@ nderivOf HyperHyperDual = 3
 unfoldable pub joinedOf : Kind → ℕ → List ℕ → ℕ → List Float → ℕ × List ℕ
 joinedOf kind function records count left =
     let run = tabulate (λ i. ofBits binary64 (getD records i 0)) count 0 in
-    let given = cond (eqb function 0x39) (byKind (λ R K. summedOf K run left) kind) (byKind (λ R K. multipliedOf K run left) kind) in
+    let given = cond (eqb function 0x39) (summedBy kind run left) (multipliedBy kind run left) in
     (given .0, wordsOf (given .1))
 
 -- NDERIV (03), the sum and the product (39, 3a), else the call; from 3b on it gives a truth, which is recorded as 1 or 0
 unfoldable pub answerOf : Kind → ℕ → ℤ → List ℕ → List ℕ → ℕ → List Float → List ℕ → ℕ × List ℕ
 answerOf kind function exponent records floats count left out =
-    let called = byKind (λ R K. calledOf K function exponent records floats out) kind in
+    let called = calledBy kind function exponent records floats out in
     cond (eqb function 0x03) (0, set out 0 (nderivOf kind))
     (cond (eqb function 0x39) (joinedOf kind function records count left)
     (cond (eqb function 0x3a) (joinedOf kind function records count left)

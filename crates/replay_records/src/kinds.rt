@@ -6,8 +6,7 @@ use hyperdual::HyperDual;
 use hyperhyperdual::HyperHyperDual;
 ghost use mathlib.Core.Path.{_≡_};
 ghost use Prim.Native.Nat.{_≤_, _<_};
-ghost use Rattle.calls.specs.Called.{calledOf, summedOf, multipliedOf};
-ghost use Rattle.replay_records.specs.Kinds.{byKind, nderivOf, sameMethodOf};
+ghost use Rattle.replay_records.specs.Kinds.{byKind, calledBy, summedBy, multipliedBy, nderivOf, sameMethodOf};
 
 pub(crate) enum Kind {
     Dual,
@@ -51,7 +50,7 @@ pub(crate) fn call(
     floats: &[u64],
     out: &mut [u64],
 ) -> u32
-    ensures { λ r. ⌜ (r, now (out .exit)) ≡ byKind (λ R K. calledOf K function exponent (now (records .entry)) (now (floats .entry)) (now (out .entry))) kind ⌝ }
+    ensures { λ r. ⌜ (r, now (out .exit)) ≡ calledBy kind function exponent (now (records .entry)) (now (floats .entry)) (now (out .entry)) ⌝ }
 {
     match kind {
         Kind::Dual => dual_calls::call(function, exponent, records, floats, out),
@@ -65,7 +64,7 @@ pub(crate) fn call(
 }
 
 pub(crate) fn sum(kind: Kind, run: &[f64], out: &mut [f64]) -> u32
-    ensures { λ r. ⌜ (r, now (out .exit)) ≡ byKind (λ R K. summedOf K (now (run .entry)) (now (out .entry))) kind ⌝ }
+    ensures { λ r. ⌜ (r, now (out .exit)) ≡ summedBy kind (now (run .entry)) (now (out .entry)) ⌝ }
 {
     match kind {
         Kind::Dual => dual_calls::sum(run, out),
@@ -77,7 +76,7 @@ pub(crate) fn sum(kind: Kind, run: &[f64], out: &mut [f64]) -> u32
 }
 
 pub(crate) fn product(kind: Kind, run: &[f64], out: &mut [f64]) -> u32
-    ensures { λ r. ⌜ (r, now (out .exit)) ≡ byKind (λ R K. multipliedOf K (now (run .entry)) (now (out .entry))) kind ⌝ }
+    ensures { λ r. ⌜ (r, now (out .exit)) ≡ multipliedBy kind (now (run .entry)) (now (out .entry)) ⌝ }
 {
     match kind {
         Kind::Dual => dual_calls::product(run, out),

@@ -34,7 +34,7 @@ table =
 
 -- the line of a number: 0000 where there is none
 abbrev pub shapeIn : ℕ → Shape
-shapeIn row = record { records = row / 0x1000 % 16; exponents = row / 0x100 % 16; floats = row / 0x10 % 16; answers = row % 16 }
+shapeIn line = record { records = line / 0x1000 % 16; exponents = line / 0x100 % 16; floats = line / 0x10 % 16; answers = line % 16 }
 
 unfoldable pub shapeOf : ℕ → Shape
 shapeOf function = shapeIn (getD table function 0)

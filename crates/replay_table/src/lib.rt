@@ -117,12 +117,12 @@ pub fn shape_of(function: u64) -> Shape
             answers: 0,
         };
     }
-    let row = TABLE[function as usize];
+    let line = TABLE[function as usize];
     Shape {
-        records: row / 0x1000 % 16,
-        exponents: row / 0x100 % 16,
-        floats: row / 0x10 % 16,
-        answers: row % 16,
+        records: line / 0x1000 % 16,
+        exponents: line / 0x100 % 16,
+        floats: line / 0x10 % 16,
+        answers: line % 16,
     }
 }
 

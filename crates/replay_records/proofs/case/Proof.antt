@@ -1,4 +1,4 @@
--- What is lent of each buffer is within it. Assumes nothing.
+-- What is lent of each buffer is within it, since a case that was read has at most so many words.
 use Prim.Native.Nat.{ℕ, _≤_, _<_}
 use mathlib.Core.Path.{_≡_, sym, _∙_}
 use mathlib.Core.List.{List}
@@ -9,12 +9,15 @@ use borrow.Author.Needs.{needs}
 use Rattle.replay_records.proofs.case.Statement.{statement}
 use Rattle.replay_records.proofs.case.Tie as tie
 
+-- two buffers lent as far are as long
 as-long : {A B : Type 0} (n : ℕ) (l : List A) (m : List B) → n ≤ length l → n ≤ length m → length (take n l) ≡ length (take n m)
 as-long n l m h k = length-take-le n l h ∙ sym (length-take-le n m k)
 
+-- and not empty where that is not 0
 positive : {A : Type 0} (n : ℕ) (l : List A) → 0 < n → n ≤ length l → 0 < length (take n l)
 positive n l h k = rw (length-take-le n l k) h
 
+-- each part lent is as long as it says
 slice-aggregate-case-of : tie.Need-slice-aggregate-case-of
 slice-aggregate-case-of c = sym (length-take-le _ _ (search needs))
 
@@ -33,6 +36,7 @@ slice-aggregate-case-of-5 c = sym (length-take-le _ _ (search needs))
 slice-aggregate-case-of-6 : tie.Need-slice-aggregate-case-of-6
 slice-aggregate-case-of-6 c = sym (length-take-le _ _ (search needs))
 
+-- an answer has between 1 and 16 words, and out and left are lent as far
 case-of-requires : tie.Need-case-of-requires
 case-of-requires c κs =
     let size = c .before .before .before .before .before .before .before .before .before .before .before .before .read-case .result .answer in

@@ -1,4 +1,4 @@
--- Fewer cases are left after each. Assumes nothing.
+-- The loop ends: each case read leaves fewer.
 use Rattle.replay.proofs.Falls.{falls}
 use borrow.Author.Needs.{needs}
 use Rattle.replay_records.proofs.cases.Statement.{statement}
@@ -10,6 +10,7 @@ Inv-loop kind file buffer₀ pool run₀ function₀ count₀ buffer run functio
 abbrev μ-loop : tie.MeasureT-loop
 μ-loop kind file buffer₀ pool run₀ function₀ count₀ buffer run function count = run .left
 
+-- what comes after a case has fewer left
 loop-less : tie.Need-loop-less Inv-loop μ-loop
 loop-less c = falls _ _ _ (search needs) (c .after .ensures)
 

@@ -1,4 +1,4 @@
--- By the two ends of the numbers of 32 bits. Assumes nothing.
+-- A word is a number of 32 bits near either end of the words; between them it is none.
 use Prim.Native.Nat.{ℕ, suc, _-_, _^_, _≤_}
 use mathlib.Core.Path.{_≡_, ap, _∙_}
 use native.Mathlib.Omega.{arith}
@@ -21,14 +21,17 @@ lower b h =
     let bits : 4294967295 - b ≡ 4294967296 - suc b = omega arith in
     ap (toZ w32) bits ∙ toZ-ofZ w32 (negsuc b) (record { sfits = omega arith })
 
+-- near 0
 returns : tie.Need-returns
 unfolding exponentOf
 returns c = rw (le-leb _ _ (c .if1 .taken)) (upper _ (c .if1 .taken))
 
+-- near 2^64
 returns-2 : tie.Need-returns-2
 unfolding exponentOf
 returns-2 c = rw (lt-leb _ _ (c .before .if1 .left), le-leb _ _ (c .if2 .taken)) (lower _ (c .if2 .taken))
 
+-- between the two
 returns-3 : tie.Need-returns-3
 unfolding exponentOf
 returns-3 c = rw (lt-leb _ _ (c .before .if1 .left), lt-leb _ _ (c .if2 .left))

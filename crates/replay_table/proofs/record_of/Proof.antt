@@ -1,4 +1,4 @@
--- Each turn stores the word of one place. Assumes nothing.
+-- The loop keeps: the words passed are those of their places; at its end all are.
 use Prim.Native.Nat.{ℕ, _+_, _-_, _*_, _/_, _%_, _^_, _≤_, _<_}
 use mathlib.Core.Path.{_≡_, refl, sym, ap, _∙_}
 use mathlib.Core.List.{List}
@@ -17,10 +17,12 @@ use Rattle.replay_table.proofs.record_of.Tie as tie
 abbrev placed : List ℕ → ℕ → ℕ → ℕ → ℕ
 placed pool places parts i = getD pool (places / 2 ^ ((parts - 1 - i) * 8) % 256) 0
 
+-- one word more is passed
 turn : (pool : List ℕ) (places : ℕ) (old out : List ℕ) (i : ℕ) → length out ≡ length old → Filled 0 (placed pool places (length old)) out i → i < length out
     → (length (set out i (placed pool places (length out) i)) ≡ length old) × Filled 0 (placed pool places (length old)) (set out i (placed pool places (length out) i)) (i + 1)
 turn pool places old out i e f h = (simp length-set e, rw e (filled-more 0 (placed pool places (length old)) out i h f))
 
+-- all are passed
 whole : (pool : List ℕ) (places : ℕ) (old out : List ℕ) (i : ℕ) → length out ≡ length old → Filled 0 (placed pool places (length old)) out i → length out ≤ i → out ≡ recordOf pool places (length old)
 unfolding recordOf
 whole pool places old out i e f h =
@@ -34,12 +36,15 @@ Inv-loop pool places out₀ i₀ out i = (length out ≡ length out₀) × Fille
 abbrev μ-loop : tie.MeasureT-loop
 μ-loop pool places out₀ i₀ out i = length out₀ - i
 
+-- nothing is passed at first
 loop-holds : tie.Need-loop-holds Inv-loop μ-loop
 loop-holds c = (refl, λ k h. absurd (omega arith))
 
+-- the word stored is the one of its place
 loop-again : tie.Need-loop-again Inv-loop μ-loop
 loop-again c = turn (now (c .before .before .before .args .pool)) (c .before .before .before .args .places) (now (c .before .before .before .args .out)) (c .before .before .loop .out) (c .before .before .loop .i) (c .before .before .loop .inv .0) (c .before .before .loop .inv .1) (search needs)
 
+-- past the last place the list is whole
 returns : tie.Need-returns Inv-loop μ-loop
 returns c = whole _ _ (now (c .before .before .args .out)) _ _ (c .before .loop .inv .0) (c .before .loop .inv .1) (c .loop-test .left)
 

@@ -1,4 +1,4 @@
--- The line of the table, or none past its end. Assumes nothing.
+-- The line of the table; past its end a list reads as no line.
 use mathlib.Core.Path.{refl}
 use lib.ListN.{List·getD-eq-default}
 use Rattle.replay_table.specs.Table.{table, shapeOf}
@@ -6,10 +6,12 @@ use borrow.Author.Needs.{needs}
 use Rattle.replay_table.proofs.shape_of.Statement.{statement}
 use Rattle.replay_table.proofs.shape_of.Tie as tie
 
+-- past the end
 returns : tie.Need-returns
 unfolding shapeOf
 returns c = rw (List·getD-eq-default table 0 (c .if1 .taken))
 
+-- within the table the code reads the same line
 returns-2 : tie.Need-returns-2
 unfolding shapeOf
 returns-2 c = refl

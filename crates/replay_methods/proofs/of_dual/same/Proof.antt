@@ -1,8 +1,9 @@
--- The records are built of the words. Assumes nothing.
+-- The records are built of the words, then compared.
 use borrow.Author.Needs.{needs}
 use Rattle.replay_methods.proofs.of_dual.same.Statement.{statement}
 use Rattle.replay_methods.proofs.of_dual.same.Tie as tie
 
+-- each part is the float of its word
 returns : tie.Need-returns
 returns c = rw (c .before .before .before .before .before .new .ensures, c .before .before .new2 .ensures, c .before .before .before .before .before .before .before .part .ensures, c .before .before .before .before .before .before .part2 .ensures, c .before .before .before .before .part3 .ensures, c .before .before .before .part4 .ensures, c .before .part5 .ensures) at (c .same-method .ensures)
 

@@ -1,17 +1,18 @@
--- The call, then the method. Assumes nothing.
-use mathlib.Core.Path.{sym, _∙_}
+-- The call's answer is compared first; the method is asked only where it is the same.
+use mathlib.Core.Path.{_≡_, sym, _∙_}
+use mathlib.Core.Bool.{Bool, true, false, _&&_}
 use borrow.Author.Needs.{needs}
 use Rattle.replay_records.proofs.answers.same_case.Statement.{statement}
 use Rattle.replay_records.proofs.answers.same_case.Tie as tie
 
-returns : tie.Need-returns
-returns c = rw (sym (c .before .before .same-answer .ensures) ∙ c .before .if1 .taken) (c .same-method .ensures)
+both : (a s m r : Bool) → s ≡ a → s ≡ true → r ≡ m → r ≡ (a && m)
+both a s m r e told f = rw (sym e ∙ told) f
 
-returns-2 : tie.Need-returns-2
-returns-2 c = rw (sym (c .before .same-answer .ensures) ∙ c .if1 .left)
+first : (a s m : Bool) → s ≡ a → s ≡ false → false ≡ (a && m)
+first a s m e told = rw (sym e ∙ told)
 
 pub same-case-spec : {M : Type 1} → statement M
 same-case-spec = tie.close (tie.spec
     (λ c κs. search needs) (λ c κs. search needs)
-    returns
-    returns-2)
+    (λ c. search (needs, both))
+    (λ c. search (needs, first)))

@@ -1,5 +1,6 @@
--- By the record type. Assumes nothing.
+-- Each arm is the record type's own crate: one law over the record types (ByKind).
 use borrow.Author.Needs.{needs}
+use Rattle.replay_records.proofs.ByKind.{multiplied-by}
 use Rattle.replay_records.proofs.kinds.product.Statement.{statement}
 use Rattle.replay_records.proofs.kinds.product.Tie as tie
 use Rattle.dual3_calls.proofs.product.Reads as product-reads′
@@ -7,34 +8,14 @@ use Rattle.dual_calls.proofs.product.Reads as product-reads′′
 use Rattle.hyperdual_calls.proofs.product.Reads as product-reads′′′
 use Rattle.hyperhyperdual_calls.proofs.product.Reads as product-reads′′′′
 
-returns : tie.Need-returns
-returns c = rw (c .before .before .before .before .enum-told .given .1) (c .before .before .product .ensures)
-
-returns-2 : tie.Need-returns-2
-returns-2 c = rw (c .before .before .before .before .enum-told2 .given .1) (c .before .before .product2 .ensures)
-
-returns-3 : tie.Need-returns-3
-returns-3 c = rw (c .before .before .before .before .enum-told3 .given .1) (c .before .before .product3 .ensures)
-
-returns-4 : tie.Need-returns-4
-returns-4 c = rw (c .before .before .before .before .enum-told4 .given .1) (c .before .before .product4 .ensures)
-
-returns-5 : tie.Need-returns-5
-returns-5 c = rw (c .before .before .before .before .enum-told5 .given .1) (c .before .before .product5 .ensures)
-
 pub product-spec : {M : Type 1} → statement M
 product-spec =
     tie.close
     (tie.spec
-    (λ c. search needs) (λ c κs. search needs) (λ c. search needs) (λ c κs. search needs) (λ c. search needs)
-    (λ c κs. search needs) (λ c. search needs) (λ c κs. search needs) (λ c. search needs) (λ c κs. search needs)
-    (λ c. search needs)
-    returns
-    (λ c. search needs)
-    returns-2
-    (λ c. search needs)
-    returns-3
-    (λ c. search needs)
-    returns-4
-    (λ c. search needs)
-    returns-5)
+    (λ c. search needs) (λ c κs. search needs) (λ c. search needs) (λ c κs. search needs) (λ c. search needs) (λ c κs. search needs)
+    (λ c. search needs) (λ c κs. search needs) (λ c. search needs) (λ c κs. search needs)
+    (λ c. search needs) (λ c. search (needs, multiplied-by))
+    (λ c. search needs) (λ c. search (needs, multiplied-by))
+    (λ c. search needs) (λ c. search (needs, multiplied-by))
+    (λ c. search needs) (λ c. search (needs, multiplied-by))
+    (λ c. search needs) (λ c. search (needs, multiplied-by)))

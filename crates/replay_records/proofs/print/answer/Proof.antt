@@ -1,4 +1,4 @@
--- Stays within the words, and ends. Assumes nothing.
+-- The loop stays within the words, and ends as each turn prints one.
 use Prim.Native.Nat.{_≤_, _-_}
 use lib.ListN.{length}
 use borrow.Author.Needs.{needs}

@@ -1,4 +1,4 @@
--- What is lent of each buffer is within it. Assumes nothing.
+-- What is lent of each buffer is within it: two floats at most, two records of at most 8 parts at most.
 use mathlib.Core.Path.{sym}
 use native.Mathlib.Omega.{arith}
 use lib.Seq.{length-take-le}
@@ -6,18 +6,23 @@ use borrow.Author.Needs.{needs}
 use Rattle.replay_table.proofs.read.read_case.Statement.{statement}
 use Rattle.replay_table.proofs.read.read_case.Tie as tie
 
+-- at most two floats, of two lent
 slice-relend-prefix-read-middle : tie.Need-slice-relend-prefix-read-middle
 slice-relend-prefix-read-middle c = omega (arith, c .before .float-count .ensures .1, c .before .before .before .before .before .before .before .before .before .before .before .before .before .before .before .pre .1 .1 .0)
 
+-- so that the part lent is as long as it says
 slice-aggregate-read-middle : tie.Need-slice-aggregate-read-middle
 slice-aggregate-read-middle c = sym (length-take-le _ _ (omega (arith, c .before .before .float-count .ensures .1, c .before .before .before .before .before .before .before .before .before .before .before .before .before .before .before .before .pre .1 .1 .0)))
 
+-- the parts are those asked of the whole function
 answer-words-requires : tie.Need-answer-words-requires
 answer-words-requires c κs = c .before .before .before .before .before .before .before .before .before .before .before .before .before .before .before .before .before .before .before .before .pre .0
 
+-- an answer has at most 16 words, of 16 lent
 slice-relend-prefix-read-words : tie.Need-slice-relend-prefix-read-words
 slice-relend-prefix-read-words c = omega (arith, c .before .answer-words .ensures .1 .1, c .before .before .before .before .before .before .before .before .before .before .before .before .before .before .before .before .before .before .before .before .before .before .pre .1 .1 .1)
 
+-- so that the part lent is as long as it says
 slice-aggregate-read-words : tie.Need-slice-aggregate-read-words
 slice-aggregate-read-words c = sym (length-take-le _ _ (omega (arith, c .before .before .answer-words .ensures .1 .1, c .before .before .before .before .before .before .before .before .before .before .before .before .before .before .before .before .before .before .before .before .before .before .before .pre .1 .1 .1)))
 

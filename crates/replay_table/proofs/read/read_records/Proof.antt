@@ -1,4 +1,4 @@
--- Stays within the lent words, and ends. Assumes nothing.
+-- The loop keeps: what is read so far lies within the 96 lent words; it ends as each turn reads one record of those left.
 use Prim.Native.Nat.{_≤_}
 use mathlib.Core.Path.{_≡_}
 use lib.ListN.{length}
