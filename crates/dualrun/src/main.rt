@@ -3,10 +3,11 @@
 ghost use Prim.Native.Nat.{_≤_};
 ghost use lib.ListN.{length};
 ghost use Rattle.io.specs.Counts.{Counts};
+ghost use Rattle.dualrun_text.specs.Request.{longestLine};
 
 // Reads byte by byte until the text is decided or longer than any first line, then the rest: how many bytes of the buffer were read.
 fn read_text(text: &mut [u8]) -> usize
-    requires { ⌜ 24 ≤ length (now text) ⌝ }
+    requires { ⌜ longestLine ≤ length (now text) ⌝ }
     ensures { λ r. ⌜ Counts r (now (text .exit)) ⌝ }
 {
     let mut read = 0;

@@ -1,13 +1,10 @@
 -- Laws that the proofs cite, and the theorems of the runner (those are public). Assumes nothing.
 -- reading
-mod Every
-mod Digits
 mod FirstLine
-mod Newline
+mod LineCame
 mod FirstBytes
 mod Words
 -- writing
-mod Page
 mod Lines
 -- the two commands
 mod Commands

@@ -8,40 +8,39 @@ use native.Mathlib.Omega.{arith}
 use lib.Dec.{leb, ltb, eqb}
 use lib.ListN.{length, List·getD-append, length-append}
 use lib.Seq.{getD-append-seam}
-use borrow.Author.Tests.{leb-true, ltb-true, ltb-false, le-leb, ne-eqb, eqb-false, not-true}
+use borrow.Author.Tests.{leb-true, ltb-true, ltb-false, le-leb, ne-eqb, eqb-false, not-true, not-false}
+use Rattle.texts.specs.Bytes.{newline}
+use Rattle.texts.specs.Digits.{byteAt, noNewline}
+use Rattle.texts.proofs.Every.{both-true}
+use Rattle.texts.proofs.Newline.{Clear, clear-fewer, clear-text, text-clear}
 use Rattle.dualrun_text.specs.declared.Request.{Request}
 use Rattle.dualrun_text.specs.declared.Request.the-variants.{Lu, Eig, Unreadable}
-use Rattle.dualrun_text.specs.Digits.{byteAt}
-use Rattle.dualrun_text.specs.Request.{requestOf, luLineRefusal, eigLineRefusal, lineRefusal}
+use Rattle.dualrun_text.specs.Request.{longestLine, requestOf, luLineRefusal, eigLineRefusal, lineRefusal}
 use Rattle.dualrun_text.specs.Output.{luOutput, eigOutput, outputFor, outputOf}
-use Rattle.dualrun_text.specs.Decided.{noNewline, hasLine, decidedOf}
+use Rattle.dualrun_text.specs.Decided.{hasLine, decidedOf}
 use Rattle.dualrun_text.proofs.Commands.{unless-same}
-use Rattle.dualrun_text.proofs.Newline.{Clear, clear-fewer, clear-text, text-clear, has-newline}
+use Rattle.dualrun_text.proofs.LineCame.{has-newline}
 use Rattle.dualrun_text.proofs.FirstBytes.{request-same, no-line}
-
-both-true : (a b : Bool) → (a && b) ≡ true → (a ≡ true) × (b ≡ true)
-both-true true b e = (refl, e)
-both-true false b e = absurd (true≢false (sym e))
 
 -- ---- what has a line asks the same, whatever follows
 module _ (text rest : List ℕ) (whole : hasLine text ≡ true) where
-  -- past its end a newline was passed, or 24 bytes
-  ended : (i : ℕ) → i < 24 → length text ≤ i → Clear (text ++ rest) i → ⊥
+  -- past its end a newline was passed, or as many bytes as the longest line has
+  ended : (i : ℕ) → i < longestLine → length text ≤ i → Clear (text ++ rest) i → ⊥
   unfolding hasLine
-  ended i few past c = by (leb 24 (length text)) refl (noNewline text) refl
+  ended i few past c = by (leb longestLine (length text)) refl (noNewline text) refl
     where
       none : noNewline text ≡ true
       none = text-clear text (λ j lt e. c j (omega arith) (List·getD-append text rest 0 j lt ∙ e))
 
-      by : (a : Bool) → leb 24 (length text) ≡ a → (b : Bool) → noNewline text ≡ b → ⊥
-      by true e b g = let h = leb-true 24 (length text) e in omega arith
+      by : (a : Bool) → leb longestLine (length text) ≡ a → (b : Bool) → noNewline text ≡ b → ⊥
+      by true e b g = let h = leb-true longestLine (length text) e in omega arith
       by false e true g = true≢false (sym whole ∙ (λ i. e i || not (g i)))
       by false e false g = true≢false (sym none ∙ g)
 
   pub prefix-request : requestOf text ≡ requestOf (text ++ rest)
   prefix-request = request-same text (text ++ rest) (λ i few c. by i few c (ltb i (length text)) refl)
     where
-      by : (i : ℕ) → i < 24 → Clear (text ++ rest) i → (b : Bool) → ltb i (length text) ≡ b → byteAt text i ≡ byteAt (text ++ rest) i
+      by : (i : ℕ) → i < longestLine → Clear (text ++ rest) i → (b : Bool) → ltb i (length text) ≡ b → byteAt text i ≡ byteAt (text ++ rest) i
       by i few c true e = sym (List·getD-append text rest 0 i (ltb-true i (length text) e))
       by i few c false e = absurd (ended i few (ltb-false i (length text) e) c)
 
@@ -53,13 +52,16 @@ refused-same s t (Eig n limit start) h = unless-same (eigLineRefusal n limit) _ 
 refused-same s t Unreadable h = refl
 
 -- ---- the test, by whether the line has come
-pub not-come : (text : List ℕ) → hasLine text ≡ false → false ≡ decidedOf text
-unfolding decidedOf
-not-come text e = ap (λ (b : Bool). b && not (eqb (lineRefusal (requestOf text)) 0)) (sym e)
+module _ (text : List ℕ) (line : Bool) (tested : line ≡ hasLine text) where
+  pub not-come : not line ≡ true → false ≡ decidedOf text
+  unfolding decidedOf
+  not-come h = ap (λ (b : Bool). b && not (eqb (lineRefusal (requestOf text)) 0)) (sym (not-true line h) ∙ tested)
 
-pub come : (text : List ℕ) (number : ℕ) → hasLine text ≡ true → number ≡ lineRefusal (requestOf text) → not (eqb number 0) ≡ decidedOf text
-unfolding decidedOf
-come text number e told = ap (λ (k : ℕ). not (eqb k 0)) told ∙ ap (λ (b : Bool). b && not (eqb (lineRefusal (requestOf text)) 0)) (sym e)
+  pub come : (q : Request) (number : ℕ) → not line ≡ false → q ≡ requestOf text → number ≡ lineRefusal q → not (eqb number 0) ≡ decidedOf text
+  unfolding decidedOf
+  come q number h asked told =
+      ap (λ (k : ℕ). not (eqb k 0)) (told ∙ ap lineRefusal asked)
+      ∙ ap (λ (b : Bool). b && not (eqb (lineRefusal (requestOf text)) 0)) (sym (not-false line h) ∙ tested)
 
 -- what the program stands on: where the beginning of a text decides, the rest need not be read
 pub decided-output : (text rest : List ℕ) → decidedOf text ≡ true → outputOf (text ++ rest) ≡ outputOf text
@@ -71,30 +73,30 @@ decided-output text rest e =
 
 -- ---- a line and its newline
 module _ (line : List ℕ) where
-  has-line : hasLine (line ++ 10 ∷ []) ≡ true
-  has-line = sym (has-newline (line ++ 10 ∷ []) (length line) (omega (arith, length-append line (10 ∷ []))) (getD-append-seam line 10 [] 0))
+  has-line : hasLine (line ++ newline ∷ []) ≡ true
+  has-line = sym (has-newline (line ++ newline ∷ []) (length line) (omega (arith, length-append line (newline ∷ []))) (getD-append-seam line newline [] 0))
 
   -- what a text asks is what its first line asks
-  pub line-request : (rest : List ℕ) → requestOf (line ++ 10 ∷ rest) ≡ requestOf (line ++ 10 ∷ [])
-  line-request rest = ap requestOf (sym (append-assoc line (10 ∷ []) rest)) ∙ sym (prefix-request (line ++ 10 ∷ []) rest has-line)
+  pub line-request : (rest : List ℕ) → requestOf (line ++ newline ∷ rest) ≡ requestOf (line ++ newline ∷ [])
+  line-request rest = ap requestOf (sym (append-assoc line (newline ∷ []) rest)) ∙ sym (prefix-request (line ++ newline ∷ []) rest has-line)
 
   -- two texts that are the same up to and including a newline, refused 1, 3 or 4 by the line or with a line that cannot be read: the same output
-  pub line-output : (rest other : List ℕ) → (lineRefusal (requestOf (line ++ 10 ∷ rest)) ≡ 0 → ⊥) → outputOf (line ++ 10 ∷ rest) ≡ outputOf (line ++ 10 ∷ other)
+  pub line-output : (rest other : List ℕ) → (lineRefusal (requestOf (line ++ newline ∷ rest)) ≡ 0 → ⊥) → outputOf (line ++ newline ∷ rest) ≡ outputOf (line ++ newline ∷ other)
   unfolding outputOf
   line-output rest other h =
-      refused-same (line ++ 10 ∷ rest) (line ++ 10 ∷ other) (requestOf (line ++ 10 ∷ rest)) h
-      ∙ ap (outputFor (line ++ 10 ∷ other)) (line-request rest ∙ sym (line-request other))
+      refused-same (line ++ newline ∷ rest) (line ++ newline ∷ other) (requestOf (line ++ newline ∷ rest)) h
+      ∙ ap (outputFor (line ++ newline ∷ other)) (line-request rest ∙ sym (line-request other))
 
   -- and it is decided once the newline has come
-  pub line-decided : (rest : List ℕ) → (lineRefusal (requestOf (line ++ 10 ∷ rest)) ≡ 0 → ⊥) → decidedOf (line ++ 10 ∷ []) ≡ true
+  pub line-decided : (rest : List ℕ) → (lineRefusal (requestOf (line ++ newline ∷ rest)) ≡ 0 → ⊥) → decidedOf (line ++ newline ∷ []) ≡ true
   unfolding decidedOf
   line-decided rest h =
-      ap (λ (b : Bool). b && not (eqb (lineRefusal (requestOf (line ++ 10 ∷ []))) 0)) has-line
+      ap (λ (b : Bool). b && not (eqb (lineRefusal (requestOf (line ++ newline ∷ []))) 0)) has-line
       ∙ ap (λ (r : Request). not (eqb (lineRefusal r) 0)) (sym (line-request rest)) ∙ ap not (ne-eqb _ 0 h)
 
 -- 24 bytes with no newline among them cannot be read, which decides
-pub long-line-decided : (text : List ℕ) → 24 ≤ length text → noNewline text ≡ true → decidedOf text ≡ true
+pub long-line-decided : (text : List ℕ) → longestLine ≤ length text → noNewline text ≡ true → decidedOf text ≡ true
 unfolding decidedOf hasLine
 long-line-decided text h none =
-    ap (λ (b : Bool). (b || not (noNewline text)) && not (eqb (lineRefusal (requestOf text)) 0)) (le-leb 24 (length text) h)
-    ∙ ap (λ (r : Request). not (eqb (lineRefusal r) 0)) (no-line text (clear-fewer text 24 (clear-text text none) h))
+    ap (λ (b : Bool). (b || not (noNewline text)) && not (eqb (lineRefusal (requestOf text)) 0)) (le-leb longestLine (length text) h)
+    ∙ ap (λ (r : Request). not (eqb (lineRefusal r) 0)) (no-line text (clear-fewer text longestLine (clear-text text none) h))

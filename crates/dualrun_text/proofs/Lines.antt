@@ -1,58 +1,52 @@
--- What is printed, part by part. Assumes nothing.
-use Prim.Native.Nat.{ℕ, zero, suc, _+_, _-_, _*_, _/_, _^_, _<_, _≤_}
-use mathlib.Core.Path.{_≡_, refl, sym, ap, subst}
-use mathlib.Core.Bool.{Bool, true, false}
-use mathlib.Core.List.{List, _++_}
-use native.Mathlib.Nat.{pow-suc, pow-le-pow-right, div-lt-iff-lt-mul, le-div-iff-mul-le, lt-of-lt-of-le}
+-- What is printed, part after part. Assumes nothing.
+use Prim.Native.Nat.{ℕ, suc, _+_, _*_, _<_, _≤_}
+use mathlib.Core.Path.{_≡_, ap, _∙_}
+use mathlib.Core.List.{List, [], _∷_, _++_}
 use native.Mathlib.Omega.{arith}
-use lib.Dec.{ltb, lit<, lit≤}
-use lib.ListN.{getD}
-use lib.Ieee.{Float}
-use borrow.Author.Tests.{ltb-true, ltb-false, lt-ltb, le-ltb}
-use Rattle.io.specs.Digits.{digits, Fewest}
-use Rattle.real.specs.Operations as float
-use Rattle.dualrun_text.specs.Lines.{places, decimalText, recordLine, recordLines, entryText, entries}
+use lib.ListN.{length, getD}
+use lib.Ieee.{Float, nan, binary64, toBits}
+use borrow.Author.Tests.{eq-eqb, ne-eqb}
+use Rattle.real.specs.Operations.{zero}
+use Rattle.algebra.proofs.Inside.{getD-inside}
+use Rattle.texts.specs.Bytes.{newline, space}
+use Rattle.texts.specs.Numbers.{decimalText, hexText}
+use Rattle.texts.specs.Page.{Page, written}
+use Rattle.texts.proofs.Page.{then, four-parts}
+use Rattle.dualrun_text.specs.Lines.{wordText, refusalLine, pairLine, recordLine, recordLines, entryText, entries, orderLine}
 
--- the fewest digits are as many as `places` says
-pub places-is : (d n k : ℕ) → k ≤ suc d → Fewest 10 1 n k → k ≡ places d n
-unfolding places
-places-is zero n k h f = omega (arith, f .0)
-places-is (suc d) n zero h f = absurd (omega (arith, f .0))
-places-is (suc d) n (suc zero) h f = rw (lt-ltb n 10 (f .1))
-places-is (suc d) n (suc (suc j)) h f =
-    let e : 10 ^ suc j ≡ 10 ^ j * 10 = pow-suc 10 j in
-    let low : 10 ^ suc j ≤ n = subst (λ (x : ℕ). 10 ^ x ≤ n) (let s : suc (suc j) - 1 ≡ suc j = omega arith in s) (f .2 (omega arith)) in
-    let one : 1 ≤ 10 ^ j = pow-le-pow-right (lit< tt) {i = 0} (omega arith) in
-    let ten : 10 ≤ n = omega arith in
-    rw (le-ltb n 10 ten)
-    (ap suc (places-is d (n / 10) (suc j) (omega arith) (omega arith, div-lt-iff-lt-mul (lit< tt) .1 (subst (λ (x : ℕ). n < x) (pow-suc 10 (suc j)) (f .1)), rest j n low)))
-  where
-    rest : (j n : ℕ) → 10 ^ suc j ≤ n → 1 < suc j → 10 ^ (suc j - 1) ≤ n / 10
-    rest j n low h =
-        let e : suc j - 1 ≡ j = omega arith in
-        subst (λ (x : ℕ). 10 ^ x ≤ n / 10) (sym e) (le-div-iff-mul-le (lit< tt) .1 (subst (λ (x : ℕ). x ≤ n) (pow-suc 10 j) low))
+module _ (p : Page) where
+  pub word-line : (q : Page) (w : ℕ) (x : Float) → q ≡ written p (hexText w) → w ≡ toBits binary64 x → q ≡ written p (wordText x)
+  unfolding wordText
+  word-line q w x e g = e ∙ ap (λ (v : ℕ). written p (hexText v)) g
 
--- a number below b ^ m has at most m digits in base b
-fewest-most : (b least n k m : ℕ) → 0 < b → least ≤ m → n < b ^ m → Fewest b least n k → k ≤ m
-fewest-most b least n k m hb hl hn f = by (ltb m k) refl
-  where
-    by : (t : Bool) → ltb m k ≡ t → k ≤ m
-    by true t = let h : m < k = ltb-true m k t in absurd (clash (f .2 (omega arith)) (pow-le-pow-right hb {i = m} {j = k - 1} (omega arith)) hn)
-      where
-        clash : b ^ (k - 1) ≤ n → b ^ m ≤ b ^ (k - 1) → n < b ^ m → ⊥
-        clash x y z = omega arith
-    by false t = ltb-false m k t
+  pub refusal-line : (q r : Page) (number : ℕ) → q ≡ written p (decimalText number) → r ≡ written q (newline ∷ []) → r ≡ written p (refusalLine number)
+  unfolding refusalLine
+  refusal-line q r number g h = then p (decimalText number) (newline ∷ []) g h
 
-pub decimal-is : (n k : ℕ) → n < 2 ^ 64 → Fewest 10 1 n k → digits 10 k n ≡ decimalText n
-unfolding decimalText
-decimal-is n k h f = ap (λ (x : ℕ). digits 10 x n) (places-is 19 n k (fewest-most 10 1 n k 20 (lit< tt) (lit≤ tt) (lt-of-lt-of-le h (lit≤ tt)) f) f)
+  pub pair-line : (q r s t : Page) (a b : ℕ) → q ≡ written p (decimalText a) → r ≡ written q (space ∷ []) → s ≡ written r (decimalText b) → t ≡ written s (newline ∷ []) → t ≡ written p (pairLine a b)
+  unfolding pairLine
+  pair-line q r s t a b g h i j = four-parts p (decimalText a) (space ∷ []) (decimalText b) (newline ∷ []) g h i j
 
-pub word-digits : (n k : ℕ) → n < 2 ^ 64 → Fewest 16 16 n k → k ≡ 16
-word-digits n k h f = let g : k ≤ 16 = fewest-most 16 16 n k 16 (lit< tt) (lit≤ tt) h f in omega (arith, f .0)
+  pub record-line : (q r s t : Page) (re eps : Float) → q ≡ written p (wordText re) → r ≡ written q (space ∷ []) → s ≡ written r (wordText eps) → t ≡ written s (newline ∷ []) → t ≡ written p (recordLine re eps)
+  unfolding recordLine
+  record-line q r s t re eps g h i j = four-parts p (wordText re) (space ∷ []) (wordText eps) (newline ∷ []) g h i j
 
-pub records-more : (l : List Float) (k : ℕ) → recordLines l k ++ recordLine (getD l (2 * k) float.zero) (getD l (2 * k + 1) float.zero) ≡ recordLines l (k + 1)
+  pub first-entry : (q : Page) (i x : ℕ) → i ≡ 0 → q ≡ written p (decimalText x) → q ≡ written p (entryText i x)
+  first-entry q i x e g = rw (eq-eqb i 0 e) g
+
+  pub later-entry : (q r : Page) (i x : ℕ) → (i ≡ 0 → ⊥) → q ≡ written p (space ∷ []) → r ≡ written q (decimalText x) → r ≡ written p (entryText i x)
+  later-entry q r i x e g h = rw (ne-eqb i 0 e) (then p (space ∷ []) (decimalText x) g h)
+
+  pub order-line : (q r : Page) (l : List ℕ) → q ≡ written p (entries l (length l)) → r ≡ written q (newline ∷ []) → r ≡ written p (orderLine l (length l))
+  unfolding orderLine
+  order-line q r l g h = then p (entries l (length l)) (newline ∷ []) g h
+
+-- one record more, one entry more
+pub records-more : (l : List Float) (count k : ℕ) → k < count → 2 * count ≤ length l → recordLines l k ++ recordLine (getD l (2 * k) nan) (getD l (2 * k + 1) nan) ≡ recordLines l (k + 1)
 unfolding recordLines
-records-more l k = ap (recordLines l) (let e : suc k ≡ k + 1 = omega arith in e)
+records-more l count k h g =
+    (λ i. recordLines l k ++ recordLine (getD-inside l (2 * k) nan zero (omega arith) i) (getD-inside l (2 * k + 1) nan zero (omega arith) i))
+    ∙ ap (recordLines l) (let e : suc k ≡ k + 1 = omega arith in e)
 
 pub entries-more : (l : List ℕ) (i : ℕ) → entries l i ++ entryText i (getD l i 0) ≡ entries l (i + 1)
 unfolding entries

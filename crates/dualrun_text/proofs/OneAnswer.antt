@@ -3,7 +3,7 @@ use mathlib.Core.Path.{refl, ap, sym, _∙_}
 use borrow.Fn.Kinds.{endedOf}
 use denote.Triple.Clauses.{atExit}
 use Rattle.real.proofs.Only.{Only}
-use Rattle.dualrun_text.specs.Page.{Page}
+use Rattle.texts.specs.Page.{Page}
 use Rattle.dualrun_text.proofs.run.Kinds as run-k
 use Rattle.dualrun_text.proofs.run.Reads as run-r
 use Rattle.dualrun_text.proofs.decided.Kinds as decided-k

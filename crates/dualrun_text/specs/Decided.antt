@@ -4,16 +4,12 @@ use mathlib.Core.Bool.{Bool, not, _&&_, _||_}
 use mathlib.Core.List.{List}
 use lib.Dec.{leb, eqb}
 use lib.ListN.{length}
-use Rattle.dualrun_text.specs.Digits.{byteAt, every}
-use Rattle.dualrun_text.specs.Request.{requestOf, lineRefusal}
+use Rattle.texts.specs.Digits.{noNewline}
+use Rattle.dualrun_text.specs.Request.{longestLine, requestOf, lineRefusal}
 
--- no byte of the text is a newline
-unfoldable pub noNewline : List ℕ → Bool
-noNewline text = every (λ i. not (eqb (byteAt text i) 10)) (length text)
-
--- the first line has come: its newline, or the 24 bytes of the longest that can be read, `eig 999999999 999999999` and a newline
+-- the first line has come: its newline, or as many bytes as the longest that can be read has
 unfoldable pub hasLine : List ℕ → Bool
-hasLine text = leb 24 (length text) || not (noNewline text)
+hasLine text = leb longestLine (length text) || not (noNewline text)
 
 -- the first line has come, and is refused or cannot be read
 unfoldable pub decidedOf : List ℕ → Bool

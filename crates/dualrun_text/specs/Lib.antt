@@ -1,8 +1,6 @@
--- What the contracts of the runner's reader and writer are written with: document 01's section on the runner. A text is the list of its bytes. Definitions only.
-pub mod Digits
+-- What the contracts of the runner are written with: document 01's section on the runner. A text is the list of its bytes. Definitions only.
 pub mod Request
 pub mod Body
-pub mod Page
 pub mod Lines
 pub mod Output
 pub mod Decided

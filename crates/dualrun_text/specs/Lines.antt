@@ -1,33 +1,29 @@
 -- What is printed: numbers in decimal, floats as words, records, orders. Definitions only.
-use Prim.Native.Nat.{ℕ, zero, suc, _+_, _*_, _/_}
+use Prim.Native.Nat.{ℕ, zero, suc, _+_, _*_}
 use mathlib.Core.Bool.{cond}
 use mathlib.Core.List.{List, [], _∷_, _++_}
-use lib.Dec.{ltb, eqb}
+use lib.Dec.{eqb}
 use lib.ListN.{getD}
 use lib.Ieee.{Float, binary64, toBits}
-use Rattle.io.specs.Digits.{digits}
+use Rattle.texts.specs.Bytes.{newline, space}
+use Rattle.texts.specs.Numbers.{decimalText, hexText}
 use Rattle.real.specs.Operations as float
-
--- how many decimal digits n has, up to d + 1
-unfoldable pub places : ℕ → ℕ → ℕ
-places zero n = 1
-places (suc d) n = cond (ltb n 10) 1 (suc (places d (n / 10)))
-
--- n in decimal, with no zero in front; every u64 has at most 20 digits
-unfoldable pub decimalText : ℕ → List ℕ
-decimalText n = digits 10 (places 19 n) n
 
 -- a float as its word in 16 lowercase hex digits: a NaN is 7ff8000000000000
 unfoldable pub wordText : Float → List ℕ
-wordText x = digits 16 16 (toBits binary64 x)
+wordText x = hexText (toBits binary64 x)
+
+-- the number of a refusal, alone on a line
+unfoldable pub refusalLine : ℕ → List ℕ
+refusalLine number = decimalText number ++ (newline ∷ [])
 
 -- two numbers on a line
 unfoldable pub pairLine : ℕ → ℕ → List ℕ
-pairLine a b = decimalText a ++ (32 ∷ []) ++ decimalText b ++ (10 ∷ [])
+pairLine a b = decimalText a ++ (space ∷ []) ++ decimalText b ++ (newline ∷ [])
 
 -- a record on a line
 unfoldable pub recordLine : Float → Float → List ℕ
-recordLine re eps = wordText re ++ (32 ∷ []) ++ wordText eps ++ (10 ∷ [])
+recordLine re eps = wordText re ++ (space ∷ []) ++ wordText eps ++ (newline ∷ [])
 
 -- so many records of flat floats, one a line
 unfoldable pub recordLines : List Float → ℕ → List ℕ
@@ -36,7 +32,7 @@ recordLines l (suc k) = recordLines l k ++ recordLine (getD l (2 * k) float.zero
 
 -- entry number i of an order, a space before it unless it is the first
 abbrev pub entryText : ℕ → ℕ → List ℕ
-entryText i x = cond (eqb i 0) (decimalText x) ((32 ∷ []) ++ decimalText x)
+entryText i x = cond (eqb i 0) (decimalText x) ((space ∷ []) ++ decimalText x)
 
 -- the first so many entries of an order
 unfoldable pub entries : List ℕ → ℕ → List ℕ
@@ -45,4 +41,4 @@ entries order (suc i) = entries order i ++ entryText i (getD order i 0)
 
 -- an order of so many entries on a line; none is an empty line
 unfoldable pub orderLine : List ℕ → ℕ → List ℕ
-orderLine order n = entries order n ++ (10 ∷ [])
+orderLine order n = entries order n ++ (newline ∷ [])

@@ -3,16 +3,17 @@ use super::read;
 use super::write;
 use jacobi::JacobiAnswer;
 ghost use mathlib.Core.Path.{_≡_};
-ghost use Prim.Native.Nat.{_*_, _<_, _≤_};
+ghost use Prim.Native.Nat.{_*_, _≤_};
 ghost use lib.ListN.{length};
 ghost use Rattle.jacobi.specs.Answer.{outcome};
-ghost use Rattle.dualrun_text.specs.Request.{eigLineRefusal};
-ghost use Rattle.dualrun_text.specs.Page.{page, written};
-ghost use Rattle.dualrun_text.specs.Output.{eigLines, eigOfLines, eigOutput};
+ghost use Rattle.dualrun_text.specs.Request.{longestLine, eigLineRefusal};
+ghost use Rattle.dualrun_text.specs.Body.{Fits};
+ghost use Rattle.texts.specs.Page.{page, written};
+ghost use Rattle.dualrun_text.specs.Output.{eigLines, eigOfLines, eigInRoom, eigOutput};
 
 // What is printed of an answer: the sweeps, the eigenvalues and the vectors, or the number of a refusal and 0.
 fn lines(out: &mut [u8], n: usize, answer: JacobiAnswer, values: &[f64], vectors: &[f64]) -> usize
-    requires { ⌜ (n ≤ 32) × (length (now values) ≡ n * 2) × (length (now vectors) ≡ n * n * 2) ⌝ }
+    requires { ⌜ Fits n × (length (now values) ≡ n * 2) × (length (now vectors) ≡ n * n * 2) ⌝ }
     ensures { λ r. ⌜ page (now (out .exit)) r ≡ written (page (now (out .entry)) 0) (eigLines n (outcome answer) (now (values .entry)) (now (vectors .entry))) ⌝ }
 {
     let JacobiAnswer::Done { sweeps } = answer else {
@@ -34,14 +35,36 @@ fn of_lines(
     values: &mut [f64],
     vectors: &mut [f64],
 ) -> usize
-    requires { ⌜ (start < 32) × (n ≤ 32) × (length (now matrix) ≡ n * n * 2) × (length (now values) ≡ n * 2) × (length (now vectors) ≡ n * n * 2) ⌝ }
+    requires { ⌜ (start ≤ longestLine) × Fits n × (length (now matrix) ≡ n * n * 2) × (length (now values) ≡ n * 2) × (length (now vectors) ≡ n * n * 2) ⌝ }
     ensures { λ r. ⌜ page (now (out .exit)) r ≡ written (page (now (out .entry)) 0) (eigOfLines (now (text .entry)) n limit start (now (values .entry)) (now (vectors .entry))) ⌝ }
 {
     if !read::body(text, start, matrix) {
-        return write::bytes(out, 0, b"9\n");
+        return write::refusal(out, 0, refusals::UNREADABLE);
     }
     let answer = jacobi::jacobi_eigenvalue(n, matrix, limit, values, vectors);
     lines(out, n, answer, values, vectors)
+}
+
+// The same in buffers of its own.
+fn in_room(text: &[u8], out: &mut [u8], n: usize, limit: usize, start: usize) -> usize
+    requires { ⌜ (start ≤ longestLine) × Fits n ⌝ }
+    ensures { λ r. ⌜ page (now (out .exit)) r ≡ written (page (now (out .entry)) 0) (eigInRoom (now (text .entry)) n limit start) ⌝ }
+{
+    let full = n * n * 2;
+    let row = n * 2;
+    let mut matrix = [0.0f64; super::MOST_FLOATS];
+    let mut values = [0.0f64; super::MOST_VALUES];
+    let mut vectors = [0.0f64; super::MOST_FLOATS];
+    of_lines(
+        text,
+        out,
+        n,
+        limit,
+        start,
+        &mut matrix[..full],
+        &mut values[..row],
+        &mut vectors[..full],
+    )
 }
 
 // The number that the first line is refused by, 0 where it is not.
@@ -62,26 +85,12 @@ pub(crate) fn line_refusal(n: usize, limit: usize) -> u32
 
 // The command: 1, 3 and 4 are decided from the first line.
 pub(crate) fn command(text: &[u8], out: &mut [u8], n: usize, limit: usize, start: usize) -> usize
-    requires { ⌜ start < 32 ⌝ }
+    requires { ⌜ start ≤ longestLine ⌝ }
     ensures { λ r. ⌜ page (now (out .exit)) r ≡ written (page (now (out .entry)) 0) (eigOutput (now (text .entry)) n limit start) ⌝ }
 {
     let number = line_refusal(n, limit);
     if number != 0 {
         return write::pair(out, 0, number as usize, 0);
     }
-    let full = n * n * 2;
-    let row = n * 2;
-    let mut matrix = [0.0f64; 2048];
-    let mut values = [0.0f64; 64];
-    let mut vectors = [0.0f64; 2048];
-    of_lines(
-        text,
-        out,
-        n,
-        limit,
-        start,
-        &mut matrix[..full],
-        &mut values[..row],
-        &mut vectors[..full],
-    )
+    in_room(text, out, n, limit, start)
 }

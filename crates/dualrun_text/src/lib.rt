@@ -7,7 +7,7 @@ mod write;
 ghost use mathlib.Core.Path.{_≡_};
 ghost use Prim.Native.Nat.{_≤_};
 ghost use lib.ListN.{length, take};
-ghost use Rattle.dualrun_text.specs.Page.{page, written};
+ghost use Rattle.texts.specs.Page.{page, written};
 ghost use Rattle.dualrun_text.specs.Request.{lineRefusal};
 ghost use Rattle.dualrun_text.specs.Output.{outputOf};
 ghost use Rattle.dualrun_text.specs.Decided.{decidedOf};
@@ -15,17 +15,18 @@ ghost use Rattle.dualrun_text.specs.Decided.{decidedOf};
 // The bytes of the longest first line that can be read: `eig `, nine digits, a space, nine digits and a newline.
 pub const LONGEST_LINE: usize = 24;
 
-// Digits read from a place on: what they spell, and how many there are.
-struct Scan {
-    value: u64,
-    digits: usize,
-}
+// The most digits of N and of S.
+const NUMBER_DIGITS: usize = 9;
 
-// One to nine decimal digits, and the place after them.
-enum Number {
-    Is { value: usize, end: usize },
-    Not,
-}
+// The digits of a word, and its bytes with the one after it.
+const WORD_DIGITS: usize = 16;
+
+const WORD_BYTES: usize = 17;
+
+// The floats of the largest matrix, and of its eigenvalues.
+const MOST_FLOATS: usize = 2048;
+
+const MOST_VALUES: usize = 64;
 
 // What the first line asks, and where the matrix starts.
 enum Request {
@@ -69,7 +70,7 @@ pub fn run(text: &[u8], out: &mut [u8]) -> usize
     match read::request(text) {
         Request::Lu { n, start } => lu::command(text, out, n, start),
         Request::Eig { n, limit, start } => eig::command(text, out, n, limit, start),
-        Request::Unreadable => write::bytes(out, 0, b"9\n"),
+        Request::Unreadable => write::refusal(out, 0, refusals::UNREADABLE),
     }
 }
 

@@ -1,60 +1,34 @@
-// Writing: each function puts a text after the first `at` bytes of a lent buffer and answers how many are then written. A full buffer takes no more.
+// Writing, as crates/texts does it: each function puts a text after the first `at` bytes of a lent buffer and answers how many are then written.
 ghost use mathlib.Core.Path.{_≡_};
-ghost use mathlib.Core.List.{[], _∷_};
 ghost use Prim.Native.Nat.{_*_, _≤_};
 ghost use lib.ListN.{length};
-ghost use Rattle.dualrun_text.specs.Page.{page, written};
-ghost use Rattle.dualrun_text.specs.Lines.{decimalText, wordText, pairLine, recordLine, recordLines, entryText, orderLine};
+ghost use Rattle.texts.specs.Page.{page, written};
+ghost use Rattle.dualrun_text.specs.Lines.{wordText, refusalLine, pairLine, recordLine, recordLines, entryText, orderLine};
 ghost use Rattle.dualrun_text.specs.Lines.{entries as Lines·entries};
-
-fn byte(out: &mut [u8], at: usize, b: u8) -> usize
-    ensures { λ r. ⌜ page (now (out .exit)) r ≡ written (page (now (out .entry)) at) (b ∷ []) ⌝ }
-{
-    if at < out.len() {
-        out[at] = b;
-        return at + 1;
-    }
-    at
-}
-
-pub(crate) fn bytes(out: &mut [u8], at: usize, text: &[u8]) -> usize
-    ensures { λ r. ⌜ page (now (out .exit)) r ≡ written (page (now (out .entry)) at) (now (text .entry)) ⌝ }
-{
-    let mut end = at;
-    let mut i = 0;
-    while i < text.len() {
-        end = byte(out, end, text[i]);
-        i += 1;
-    }
-    end
-}
-
-// In decimal.
-fn number(out: &mut [u8], at: usize, n: usize) -> usize
-    ensures { λ r. ⌜ page (now (out .exit)) r ≡ written (page (now (out .entry)) at) (decimalText n) ⌝ }
-{
-    let mut digits = [0u8; 20];
-    let count = io::decimal(n as u64, &mut digits);
-    bytes(out, at, &digits[..count])
-}
 
 // The word of a float.
 fn word(out: &mut [u8], at: usize, x: f64) -> usize
     ensures { λ r. ⌜ page (now (out .exit)) r ≡ written (page (now (out .entry)) at) (wordText x) ⌝ }
 {
-    let mut digits = [0u8; 16];
-    let count = io::hex(real::word_of_float(x), 16, &mut digits);
-    bytes(out, at, &digits[..count])
+    texts::write::word(out, at, real::word_of_float(x))
+}
+
+// The number of a refusal, alone on a line.
+pub(crate) fn refusal(out: &mut [u8], at: usize, number: u32) -> usize
+    ensures { λ r. ⌜ page (now (out .exit)) r ≡ written (page (now (out .entry)) at) (refusalLine number) ⌝ }
+{
+    let end = texts::write::number(out, at, number as u64);
+    texts::write::byte(out, end, b'\n')
 }
 
 // Two numbers on a line.
 pub(crate) fn pair(out: &mut [u8], at: usize, a: usize, b: usize) -> usize
     ensures { λ r. ⌜ page (now (out .exit)) r ≡ written (page (now (out .entry)) at) (pairLine a b) ⌝ }
 {
-    let first = number(out, at, a);
-    let space = byte(out, first, b' ');
-    let second = number(out, space, b);
-    byte(out, second, b'\n')
+    let first = texts::write::number(out, at, a as u64);
+    let space = texts::write::byte(out, first, b' ');
+    let second = texts::write::number(out, space, b as u64);
+    texts::write::byte(out, second, b'\n')
 }
 
 // A record on a line.
@@ -62,9 +36,9 @@ fn record(out: &mut [u8], at: usize, re: f64, eps: f64) -> usize
     ensures { λ r. ⌜ page (now (out .exit)) r ≡ written (page (now (out .entry)) at) (recordLine re eps) ⌝ }
 {
     let first = word(out, at, re);
-    let space = byte(out, first, b' ');
+    let space = texts::write::byte(out, first, b' ');
     let second = word(out, space, eps);
-    byte(out, second, b'\n')
+    texts::write::byte(out, second, b'\n')
 }
 
 // The first so many records of flat floats, one a line.
@@ -86,10 +60,10 @@ fn entry(out: &mut [u8], at: usize, i: usize, x: usize) -> usize
     ensures { λ r. ⌜ page (now (out .exit)) r ≡ written (page (now (out .entry)) at) (entryText i x) ⌝ }
 {
     if i == 0 {
-        return number(out, at, x);
+        return texts::write::number(out, at, x as u64);
     }
-    let space = byte(out, at, b' ');
-    number(out, space, x)
+    let space = texts::write::byte(out, at, b' ');
+    texts::write::number(out, space, x as u64)
 }
 
 // The entries of an order.
@@ -110,5 +84,5 @@ pub(crate) fn order(out: &mut [u8], at: usize, order: &[usize]) -> usize
     ensures { λ r. ⌜ page (now (out .exit)) r ≡ written (page (now (out .entry)) at) (orderLine (now (order .entry)) (length (now (order .entry)))) ⌝ }
 {
     let end = entries(out, at, order);
-    byte(out, end, b'\n')
+    texts::write::byte(out, end, b'\n')
 }

@@ -1,13 +1,13 @@
-// What the replaying programs share: reading recorded answers (here and in texts.rt), comparing (same.rt), counting and reporting (tally.rt). A function that takes
+// What the replaying programs share: reading recorded answers (here and in bytes.rt), comparing (same.rt), counting and reporting (tally.rt). A function that takes
 // a file is proved safe and ending and no more, since no contract can speak of what is read; every other has a promise of its answer.
 //
 // A file of answers holds hex words, each ended by a space or a newline; a line that starts with # is passed over.
+pub mod bytes;
 pub mod same;
 pub mod tally;
-pub mod texts;
 
 ghost use mathlib.Core.Path.{_≡_};
-ghost use Rattle.replay.specs.Reading.{digitOf, seenAfter};
+ghost use Rattle.replay.specs.Reading.{seenAfter};
 
 // The bytes at..end of the buffer are still to be read.
 pub struct Place {
@@ -60,25 +60,6 @@ fn next_byte(file: i32, buffer: &mut [u8; 4096], place: Place) -> Byte {
     Byte::Is(buffer[0], Place { at: 1, end: count })
 }
 
-// A hex digit's value, and 16 for any other byte.
-fn digit(b: u8) -> u64
-    ensures { λ r. ⌜ r ≡ digitOf b ⌝ }
-{
-    if b < b'0' {
-        return 16;
-    }
-    if b <= b'9' {
-        return (b - b'0') as u64;
-    }
-    if b < b'a' {
-        return 16;
-    }
-    if b <= b'f' {
-        return (b - b'a' + 10) as u64;
-    }
-    16
-}
-
 // A byte that is no digit, outside a comment: a space or a newline ends a word that has begun, # begins a comment where none has, any other byte ends the
 // reading with no digits.
 fn parted(s: Seen, b: u8) -> Seen
@@ -122,7 +103,7 @@ fn scan(s: Seen, b: u8) -> Seen
             done: false,
         };
     }
-    let d = digit(b);
+    let d = texts::read::digit_value(b);
     if d < 16 {
         return Seen {
             word: word % 0x1000_0000_0000_0000 * 16 + d,

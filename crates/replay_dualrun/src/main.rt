@@ -1,10 +1,10 @@
 // Replays recorded texts of dualrun: the runner's output is to be the file's, byte for byte.
 use replay::Place;
+use replay::bytes;
 use replay::same;
 use replay::tally;
 use replay::tally::Compared;
 use replay::tally::Tally;
-use replay::texts;
 
 // One case: the lengths of the input and the output, the input, the output.
 fn case(file: i32, buffer: &mut [u8; 4096], place: Place) -> Compared {
@@ -14,10 +14,10 @@ fn case(file: i32, buffer: &mut [u8; 4096], place: Place) -> Compared {
     let mut lengths = [0u64; 2];
     let read = replay::read_words(file, buffer, place, 8, &mut lengths);
     let place = read.place;
-    let given = texts::read_text(file, buffer, place, lengths[0], &mut text);
+    let given = bytes::read_text(file, buffer, place, lengths[0], &mut text);
     let place = given.place;
     let n = given.count;
-    let recorded = texts::read_text(file, buffer, place, lengths[1], &mut wanted);
+    let recorded = bytes::read_text(file, buffer, place, lengths[1], &mut wanted);
     let place = recorded.place;
     let m = recorded.count;
     let written = dualrun_text::run(&text[..n], &mut out);

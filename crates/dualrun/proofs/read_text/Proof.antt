@@ -1,29 +1,23 @@
--- `dualrun::read_text` is safe and ends, and its count lies within the buffer. At most 24 bytes are read one by one. Assumes nothing.
+-- The loop keeps: no more bytes are read one by one than the longest line has, and the buffer is as long as it was.
 use Prim.Native.Nat.{_-_, _≤_}
 use mathlib.Core.Path.{_≡_, sym}
 use lib.Seq.{length-take-le}
 use lib.ListN.{length}
 use borrow.Author.Needs.{needs}
+use Rattle.texts.proofs.Page.{counts}
+use Rattle.dualrun_text.specs.Request.{longestLine}
 use Rattle.dualrun.proofs.read_text.Statement.{statement}
 use Rattle.dualrun.proofs.read_text.Tie as tie
 
 abbrev Inv-loop : tie.InvT-loop
-Inv-loop text₀ read₀ text read = (read ≤ 24) × (length text ≡ length text₀)
+Inv-loop text₀ read₀ text read = (read ≤ longestLine) × (length text ≡ length text₀)
 
 abbrev μ-loop : tie.MeasureT-loop
-μ-loop text₀ read₀ text read = 24 - read
+μ-loop text₀ read₀ text read = longestLine - read
 
-returns : tie.Need-returns Inv-loop μ-loop
-returns c = (search needs, sym (length-take-le _ _ (search needs)))
-
+-- a part that is lent is as long as its end says
 slice-aggregate-decided : tie.Need-slice-aggregate-decided Inv-loop μ-loop
 slice-aggregate-decided c = sym (length-take-le _ _ (search needs))
-
-returns-2 : tie.Need-returns-2 Inv-loop μ-loop
-returns-2 c = (search needs, sym (length-take-le _ _ (search needs)))
-
-returns-3 : tie.Need-returns-3 Inv-loop μ-loop
-returns-3 c = (search needs, sym (length-take-le _ _ (search needs)))
 
 pub read-text-spec : {M : Type 1} → statement M
 read-text-spec =
@@ -31,11 +25,11 @@ read-text-spec =
     (tie.spec Inv-loop μ-loop
     (λ c. search needs) (λ c. search needs) (λ c. search needs) (λ c. search needs) (λ c. search needs)
     (λ c κs. search needs) (λ c. search needs)
-    returns
+    (λ c. counts _ _ (search needs))
     (λ c. search needs)
     slice-aggregate-decided
     (λ c κs. search needs) (λ c. search needs)
-    returns-2
+    (λ c. counts _ _ (search needs))
     (λ c. search needs) (λ c. search needs) (λ c. search needs) (λ c. search needs) (λ c. search needs)
     (λ c κs. search needs) (λ c. search needs) (λ c. search needs)
-    returns-3)
+    (λ c. counts _ _ (search needs)))

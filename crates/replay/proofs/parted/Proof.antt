@@ -6,19 +6,20 @@ use mathlib.Core.Path.{_≡_}
 use lib.Dec.{eqb}
 use borrow.Author.Tests.{ne-eqb}
 use Rattle.replay.specs.declared.Seen.{Seen}
-use Rattle.replay.specs.Reading.{seen, parted}
+use Rattle.texts.specs.Bytes.{newline, space}
+use Rattle.replay.specs.Reading.{seen, numberSign, parted}
 use borrow.Author.Needs.{needs}
 use Rattle.replay.proofs.parted.Statement.{statement}
 use Rattle.replay.proofs.parted.Tie as tie
 
-ends : (s : Seen) (b : ℕ) → (b ≡ 10) ⊎ (b ≡ 32) → seen (s .word) (s .digits) false (not (eqb (s .digits) 0)) ≡ parted s b
+ends : (s : Seen) (b : ℕ) → (b ≡ newline) ⊎ (b ≡ space) → seen (s .word) (s .digits) false (not (eqb (s .digits) 0)) ≡ parted s b
 unfolding parted
 ends s b (inl e) = rw e
 ends s b (inr e) = rw e
 
-other : (s : Seen) (b : ℕ) → ((b ≡ 10) ⊎ (b ≡ 32) → ⊥) → (b ≡ 35 → ⊥) → seen 0 0 false true ≡ parted s b
+other : (s : Seen) (b : ℕ) → ((b ≡ newline) ⊎ (b ≡ space) → ⊥) → (b ≡ numberSign → ⊥) → seen 0 0 false true ≡ parted s b
 unfolding parted
-other s b h k = rw (ne-eqb b 32 (λ e. h (inr e)), ne-eqb b 10 (λ e. h (inl e)), ne-eqb b 35 k)
+other s b h k = rw (ne-eqb b space (λ e. h (inr e)), ne-eqb b newline (λ e. h (inl e)), ne-eqb b numberSign k)
 
 returns : tie.Need-returns
 returns c = ends _ _ (c .match .keys1)

@@ -12,15 +12,15 @@ returns c = simp (c .if1 .taken)
 
 returns-2 : tie.Need-returns-2
 unfolding seenAfter
-returns-2 c = simp (c .before .before .before .if1 .left, sym (c .before .before .digit .ensures), lt-ltb _ _ (c .before .if2 .taken), lt-ltb _ _ (c .if3 .taken))
+returns-2 c = simp (c .before .before .before .if1 .left, sym (c .before .before .digit-value .ensures), lt-ltb _ _ (c .before .if2 .taken), lt-ltb _ _ (c .if3 .taken))
 
 returns-3 : tie.Need-returns-3
 unfolding seenAfter
-returns-3 c = simp (c .before .before .before .if1 .left, sym (c .before .before .digit .ensures), lt-ltb _ _ (c .before .if2 .taken), le-ltb _ _ (c .if3 .left))
+returns-3 c = simp (c .before .before .before .if1 .left, sym (c .before .before .digit-value .ensures), lt-ltb _ _ (c .before .if2 .taken), le-ltb _ _ (c .if3 .left))
 
 returns-4 : tie.Need-returns-4
 unfolding seenAfter
-returns-4 c = simp (c .before .before .before .if1 .left, sym (c .before .before .digit .ensures), le-ltb _ _ (c .before .if2 .left)) (c .parted .ensures)
+returns-4 c = simp (c .before .before .before .if1 .left, sym (c .before .before .digit-value .ensures), le-ltb _ _ (c .before .if2 .left)) (c .parted .ensures)
 
 pub scan-spec : {M : Type 1} → statement M
 scan-spec =

@@ -1,15 +1,12 @@
--- `dualrun_text::lu::line_refusal` meets its contract: by the test of n. Assumes nothing.
-use borrow.Author.Tests.{lt-ltb, le-ltb}
+-- By the test of n.
+use borrow.Author.Needs.{needs}
+use Rattle.dualrun_text.proofs.Commands.{lu-too-large, lu-passes}
 use Rattle.dualrun_text.proofs.lu.line_refusal.Statement.{statement}
 use Rattle.dualrun_text.proofs.lu.line_refusal.Tie as tie
 
-returns : tie.Need-returns
-returns c = rw (lt-ltb 32 _ (c .if1 .taken))
-
-returns-2 : tie.Need-returns-2
-returns-2 c = rw (le-ltb 32 _ (c .if1 .left))
-
 pub line-refusal-spec : {M : Type 1} → statement M
-line-refusal-spec = tie.close (tie.spec
-    returns
-    returns-2)
+line-refusal-spec =
+    tie.close
+    (tie.spec
+    (λ c. search (needs, lu-too-large))
+    (λ c. search (needs, lu-passes)))

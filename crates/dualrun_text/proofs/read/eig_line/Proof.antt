@@ -1,45 +1,17 @@
--- `dualrun_text::read::eig_line` meets its contract. Assumes nothing.
-use mathlib.Core.Path.{sym, _∙_}
-use denote.Ref.{now}
-use native.Mathlib.Omega.{arith}
-use Rattle.dualrun_text.specs.Request.{limitLine}
-use Rattle.dualrun_text.proofs.FirstLine.{then-not, then-other, then-is, number-end}
+-- A number, then a space, then the rest of the line, which begins early enough.
 use borrow.Author.Needs.{needs}
+use Rattle.dualrun_text.proofs.FirstLine.{then-not, then-other, then-is, place-after, place-early}
 use Rattle.dualrun_text.proofs.read.eig_line.Statement.{statement}
 use Rattle.dualrun_text.proofs.read.eig_line.Tie as tie
-
-returns : tie.Need-returns
-returns c =
-    let s = c .before .before in
-    let args = s .before .before .args in
-    then-not (now (args .text)) 4 32 (limitLine (now (args .text))) (s .number .result) (s .number .ensures) (c .enum-told .given .1)
-
-returns-2 : tie.Need-returns-2
-returns-2 c =
-    let s = c .before .before .before .before .before in
-    let args = s .before .before .args in
-    then-other (now (args .text)) 4 32 (limitLine (now (args .text))) (s .number .result) (s .number .ensures) _ _ _ (c .before .before .before .value .given .1) (c .before .byte-at .ensures) (c .if1 .taken)
-
-add-limit-line : tie.Need-add-limit-line
-add-limit-line c = let s = c .before .before .before .before .before in let h = number-end (now (s .before .before .args .text)) 4 _ _ (sym (s .number .ensures) ∙ c .before .before .before .value .given .1) in omega arith
-
-limit-line-requires : tie.Need-limit-line-requires
-limit-line-requires c κs = let s = c .before .before .before .before .before in let h = number-end (now (s .before .before .args .text)) 4 _ _ (sym (s .number .ensures) ∙ c .before .before .before .value .given .1) in omega arith
-
-returns-3 : tie.Need-returns-3
-returns-3 c =
-    let s = c .before .before .before .before .before .before in
-    let args = s .before .before .args in
-    c .limit-line .ensures ∙ then-is (now (args .text)) 4 32 (limitLine (now (args .text))) (s .number .result) (s .number .ensures) _ _ _ (c .before .before .before .before .value .given .1) (c .before .before .byte-at .ensures) (c .before .if1 .left)
 
 pub eig-line-spec : {M : Type 1} → statement M
 eig-line-spec =
     tie.close
     (tie.spec
     (λ c κs. search needs) (λ c. search needs) (λ c. search needs)
-    returns
+    (λ c. search (needs, then-not))
     (λ c κs. search needs)
-    returns-2
-    add-limit-line
-    limit-line-requires
-    returns-3)
+    (λ c. search (needs, then-other))
+    (λ c. search (needs, place-after))
+    (λ c κs. search (needs, place-early))
+    (λ c. search (needs, then-is)))

@@ -1,0 +1,12 @@
+-- The digits that `io` gives are the fewest, which are those of the definition.
+use borrow.Author.Needs.{needs}
+use Rattle.texts.proofs.Decimals.{decimal-written}
+use Rattle.texts.proofs.write.number.Statement.{statement}
+use Rattle.texts.proofs.write.number.Tie as tie
+
+pub number-spec : {M : Type 1} → statement M
+number-spec =
+    tie.close
+    (tie.spec
+    (λ c κs. search needs) (λ c. search needs) (λ c. search needs) (λ c κs. search needs) (λ c. search needs)
+    (λ c. search (needs, decimal-written)))
