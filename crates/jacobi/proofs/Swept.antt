@@ -19,7 +19,7 @@ use Rattle.algebra.proofs.Loop.{upto-keep, upto-step, upto-turn, upto-end}
 use Rattle.dual.specs.declared.Dual.{Dual}
 use Rattle.dual.specs.Rules.{dualAlgebra, dualRecords}
 use Rattle.matrices.specs.Matrix.{cell}
-use Rattle.rotations.specs.Buffers.{Sized, workOf}
+use Rattle.rotations.specs.Buffers.{Sized, manyRotations, workOf}
 use Rattle.rotations.specs.Rotation.{Work, work}
 use Rattle.jacobi.specs.Answer.{runOf, runAfter, rotationsOf}
 use Rattle.jacobi.specs.Sort.{eigen, ended}
@@ -105,7 +105,7 @@ module _ {R : Type 0} (A : Algebra R) (n : ℕ) where
 -- before sweep it-num: what is left to run gives the whole
 pub record Sweeping (n limit : ℕ) (whole : Run Dual) (a v d zw bw : List Float) (rotations it-num : ℕ) : Type 0 where
   pub within : it-num ≤ limit
-  pub few : rotations ≤ 1024 * it-num
+  pub few : rotations ≤ largest.n * largest.n * it-num
   pub sums : length bw ≡ n * 2
   pub sized : Sized n a v d zw
   pub rest : upto it-num limit (step dualAlgebra n) (runOf a v d zw bw rotations it-num) ≡ whole
@@ -113,7 +113,7 @@ pub record Sweeping (n limit : ℕ) (whole : Run Dual) (a v d zw bw : List Float
 module _ (n limit : ℕ) (whole : Run Dual) (a v d zw bw : List Float) (rotations it-num : ℕ) (w : Sweeping n limit whole a v d zw bw rotations it-num) where
   module _ (s : AfterSweep) (a′ v′ d′ zw′ bw′ : List Float) (h : it-num < limit)
       (e : runAfter s a′ v′ d′ zw′ bw′ rotations it-num ≡ step dualAlgebra n it-num (runOf a v d zw bw rotations it-num)) where
-    pub sweeps-turn : (more : ℕ) → s ≡ Swept more → rotationsOf s ≤ rotations + 1024 → Sized n a′ v′ d′ zw′ → length bw′ ≡ length bw → Sweeping n limit whole a′ v′ d′ zw′ bw′ more (it-num + 1)
+    pub sweeps-turn : (more : ℕ) → s ≡ Swept more → rotationsOf s ≤ rotations + largest.n * largest.n → Sized n a′ v′ d′ zw′ → length bw′ ≡ length bw → Sweeping n limit whole a′ v′ d′ zw′ bw′ more (it-num + 1)
     sweeps-turn more g k z l = record {
       within = omega arith;
       few = omega (arith, ap rotationsOf g, w .few);
@@ -134,5 +134,5 @@ module _ (n limit : ℕ) (whole : Run Dual) (a v d zw bw : List Float) (rotation
       ∙ ap ended (upto-end it-num limit (step dualAlgebra n) (runOf a v d zw bw rotations it-num) h (w .rest))
 
   -- the rotations so far
-  pub sweeps-few : it-num < limit → limit ≤ largest.limit → rotations < 1200000
+  pub sweeps-few : it-num < limit → limit ≤ largest.limit → rotations + largest.n * largest.n < manyRotations
   sweeps-few h k = omega (arith, w .few)

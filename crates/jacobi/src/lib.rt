@@ -10,9 +10,9 @@ ghost use Rattle.refusals.specs.Largest as largest;
 ghost use Rattle.algebra.specs.Outcome.{numberOf};
 ghost use Rattle.dual.specs.Rules.{dualAlgebra, dualLayout, dualRecords};
 ghost use Rattle.matrices.specs.Matrix.{Square};
-ghost use Rattle.jacobi.specs.Sort.{eigen, jacobiOf};
+ghost use Rattle.jacobi.specs.Sort.{jacobiOf};
 ghost use Rattle.jacobi.specs.Entry.{jacobiRefusal, jacobiAnswered, jacobiLeft};
-ghost use Rattle.jacobi.specs.Answer.{outcome};
+ghost use Rattle.jacobi.specs.Answer.{outcome, eigenOf};
 
 // The sweeps that did not stop at the threshold, or the number that the call is refused by.
 pub enum JacobiAnswer {
@@ -31,6 +31,11 @@ impl JacobiAnswer {
         }
     }
 }
+
+// The floats of a row, and of a matrix, at the largest n.
+const LARGEST_ROW: usize = refusals::LARGEST_N * 2;
+
+const LARGEST_MATRIX: usize = refusals::LARGEST_N * LARGEST_ROW;
 
 // How the sweeps ended: their count, the rotations, and whether the threshold was zero at last.
 pub(crate) struct Ended {
@@ -87,7 +92,7 @@ fn run(
     requires { ⌜ (length (now bw) ≡ n * 2) × (length (now zw) ≡ n * 2) ⌝ }
     requires { ⌜ length (now values) ≡ n * 2 ⌝ }
     requires { ⌜ (0 < n) × (limit ≤ largest.limit) ⌝ }
-    ensures { λ r. ⌜ eigen (dualRecords (now (values .exit))) (dualRecords (now (vectors .exit))) (r .sweeps) (r .rotations) (r .stopped) ≡ jacobiOf dualAlgebra n limit (dualRecords (now (a .entry))) ⌝ }
+    ensures { λ r. ⌜ eigenOf (now (values .exit)) (now (vectors .exit)) r ≡ jacobiOf dualAlgebra n limit (dualRecords (now (a .entry))) ⌝ }
 {
     prepare::prepare(n, a, w, bw, zw, values, vectors);
     let e = sweeps::sweeps(n, w, vectors, values, zw, bw, limit);
@@ -102,7 +107,7 @@ fn run_up_to_8(n: usize, a: &[f64], limit: usize, values: &mut [f64], vectors: &
     requires { ⌜ length (now values) ≡ n * 2 ⌝ }
     requires { ⌜ (0 < n) × (n ≤ 8) ⌝ }
     requires { ⌜ limit ≤ largest.limit ⌝ }
-    ensures { λ r. ⌜ eigen (dualRecords (now (values .exit))) (dualRecords (now (vectors .exit))) (r .sweeps) (r .rotations) (r .stopped) ≡ jacobiOf dualAlgebra n limit (dualRecords (now (a .entry))) ⌝ }
+    ensures { λ r. ⌜ eigenOf (now (values .exit)) (now (vectors .exit)) r ≡ jacobiOf dualAlgebra n limit (dualRecords (now (a .entry))) ⌝ }
 {
     let full = n * n * 2;
     let row = n * 2;
@@ -128,13 +133,13 @@ fn run_up_to_32(n: usize, a: &[f64], limit: usize, values: &mut [f64], vectors: 
     requires { ⌜ length (now values) ≡ n * 2 ⌝ }
     requires { ⌜ (0 < n) × (n ≤ largest.n) ⌝ }
     requires { ⌜ limit ≤ largest.limit ⌝ }
-    ensures { λ r. ⌜ eigen (dualRecords (now (values .exit))) (dualRecords (now (vectors .exit))) (r .sweeps) (r .rotations) (r .stopped) ≡ jacobiOf dualAlgebra n limit (dualRecords (now (a .entry))) ⌝ }
+    ensures { λ r. ⌜ eigenOf (now (values .exit)) (now (vectors .exit)) r ≡ jacobiOf dualAlgebra n limit (dualRecords (now (a .entry))) ⌝ }
 {
     let full = n * n * 2;
     let row = n * 2;
-    let mut w = [0.0f64; 2048];
-    let mut bw = [0.0f64; 64];
-    let mut zw = [0.0f64; 64];
+    let mut w = [0.0f64; LARGEST_MATRIX];
+    let mut bw = [0.0f64; LARGEST_ROW];
+    let mut zw = [0.0f64; LARGEST_ROW];
     run(
         n,
         a,

@@ -11,7 +11,8 @@ ghost use Rattle.algebra.specs.Loop.{upto};
 ghost use Rattle.dual.specs.Rules.{dualAlgebra, dualRecords};
 ghost use Rattle.matrices.specs.Matrix.{Square};
 ghost use Rattle.rotations.specs.Buffers.{Sized};
-ghost use Rattle.jacobi.specs.Sweeps.{identity, diagonal, start, putOne, putDiagonal};
+ghost use Rattle.jacobi.specs.Sweeps as rule;
+ghost use Rattle.jacobi.specs.Sweeps.{diagonal, start, putOne, putDiagonal};
 ghost use Rattle.jacobi.specs.Answer.{runOf};
 
 // One at each place of the diagonal.
@@ -29,7 +30,7 @@ fn put_ones(n: usize, v: &mut [f64])
 fn identity(n: usize, v: &mut [f64])
     requires { ⌜ Square 2 n (now v) ⌝ }
     ensures { λ _. ⌜ Square 2 n (now (v .exit)) ⌝ }
-    ensures { λ _. ⌜ dualRecords (now (v .exit)) ≡ Rattle.jacobi.specs.Sweeps.identity dualAlgebra n ⌝ }
+    ensures { λ _. ⌜ dualRecords (now (v .exit)) ≡ rule.identity dualAlgebra n ⌝ }
 {
     floats::clear(v);
     put_ones(n, v);

@@ -7,7 +7,7 @@ ghost use lib.ListN.{length};
 ghost use Rattle.dual.specs.Rules.{dualAlgebra, dualRecords};
 ghost use Rattle.matrices.specs.Matrix.{Square};
 ghost use Rattle.jacobi.specs.Sort as rule;
-ghost use Rattle.jacobi.specs.Sort.{pairs};
+ghost use Rattle.jacobi.specs.Answer.{pairsOf};
 
 // The place of the smaller of two values, m where neither is.
 fn smaller(n: usize, d: &[f64], l: usize, m: usize) -> usize
@@ -55,7 +55,7 @@ fn select(n: usize, d: &mut [f64], v: &mut [f64], k: usize)
     requires { ⌜ (length (now d) ≡ n * 2) × Square 2 n (now v) ⌝ }
     requires { ⌜ k < n ⌝ }
     ensures { λ _. ⌜ Square 2 n (now (v .exit)) ⌝ }
-    ensures { λ _. ⌜ pairs (dualRecords (now (d .exit))) (dualRecords (now (v .exit))) ≡ rule.select dualAlgebra n k (pairs (dualRecords (now (d .entry))) (dualRecords (now (v .entry)))) ⌝ }
+    ensures { λ _. ⌜ pairsOf (now (d .exit)) (now (v .exit)) ≡ rule.select dualAlgebra n k (pairsOf (now (d .entry)) (now (v .entry))) ⌝ }
 {
     let m = least(n, d, k);
     if m == k {
@@ -69,7 +69,7 @@ fn select(n: usize, d: &mut [f64], v: &mut [f64], k: usize)
 pub(crate) fn sort(n: usize, d: &mut [f64], v: &mut [f64])
     requires { ⌜ (length (now d) ≡ n * 2) × Square 2 n (now v) ⌝ }
     requires { ⌜ 0 < n ⌝ }
-    ensures { λ _. ⌜ pairs (dualRecords (now (d .exit))) (dualRecords (now (v .exit))) ≡ rule.sort dualAlgebra n (pairs (dualRecords (now (d .entry))) (dualRecords (now (v .entry)))) ⌝ }
+    ensures { λ _. ⌜ pairsOf (now (d .exit)) (now (v .exit)) ≡ rule.sort dualAlgebra n (pairsOf (now (d .entry)) (now (v .entry))) ⌝ }
 {
     for k in 0..n - 1 {
         select(n, d, v, k);

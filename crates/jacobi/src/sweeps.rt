@@ -14,10 +14,10 @@ ghost use Rattle.algebra.specs.Algebra.{zeroOf};
 ghost use Rattle.algebra.specs.Loop.{upto};
 ghost use Rattle.dual.specs.Rules.{dualAlgebra, dualRecords};
 ghost use Rattle.matrices.specs.Matrix.{Square};
-ghost use Rattle.rotations.specs.Buffers.{Sized, workOf};
+ghost use Rattle.rotations.specs.Buffers.{Sized, manyRotations, workOf};
 ghost use Rattle.jacobi.specs.Sweeps as rule;
-ghost use Rattle.jacobi.specs.Sort.{eigen, ended};
-ghost use Rattle.jacobi.specs.Answer.{runOf, runAfter, rotationsOf};
+ghost use Rattle.jacobi.specs.Sort.{ended};
+ghost use Rattle.jacobi.specs.Answer.{eigenOf, runOf, runAfter, rotationsOf};
 
 // thresh with the squares of column j above the diagonal.
 fn column_squares(n: usize, a: &[f64], j: usize, thresh: f64) -> f64
@@ -67,11 +67,11 @@ fn row(
 ) -> usize
     requires { ⌜ Sized n (now a) (now v) (now d) (now zw) ⌝ }
     requires { ⌜ p < n ⌝ }
-    requires { ⌜ rotations < 1500000 ⌝ }
+    requires { ⌜ rotations + largest.n < manyRotations ⌝ }
     ensures { λ _. ⌜ Sized n (now (a .exit)) (now (v .exit)) (now (d .exit)) (now (zw .exit)) ⌝ }
     ensures { λ r. ⌜ workOf (now (a .exit)) (now (v .exit)) (now (d .exit)) (now (zw .exit)) r
         ≡ rule.row dualAlgebra n thresh «it_num» p (workOf (now (a .entry)) (now (v .entry)) (now (d .entry)) (now (zw .entry)) rotations) ⌝ }
-    ensures { λ r. ⌜ r ≤ rotations + 32 ⌝ }
+    ensures { λ r. ⌜ r ≤ rotations + largest.n ⌝ }
 {
     let mut count = rotations;
     for q in p + 1..n {
@@ -92,11 +92,11 @@ fn sweep(
     rotations: usize,
 ) -> usize
     requires { ⌜ Sized n (now a) (now v) (now d) (now zw) ⌝ }
-    requires { ⌜ rotations < 1200000 ⌝ }
+    requires { ⌜ rotations + largest.n * largest.n < manyRotations ⌝ }
     ensures { λ _. ⌜ Sized n (now (a .exit)) (now (v .exit)) (now (d .exit)) (now (zw .exit)) ⌝ }
     ensures { λ r. ⌜ workOf (now (a .exit)) (now (v .exit)) (now (d .exit)) (now (zw .exit)) r
         ≡ rule.sweep dualAlgebra n thresh «it_num» (workOf (now (a .entry)) (now (v .entry)) (now (d .entry)) (now (zw .entry)) rotations) ⌝ }
-    ensures { λ r. ⌜ r ≤ rotations + 1024 ⌝ }
+    ensures { λ r. ⌜ r ≤ rotations + largest.n * largest.n ⌝ }
 {
     let mut count = rotations;
     for p in 0..n {
@@ -143,11 +143,11 @@ fn step(
 ) -> AfterSweep
     requires { ⌜ Sized n (now a) (now v) (now d) (now zw) ⌝ }
     requires { ⌜ length (now bw) ≡ n * 2 ⌝ }
-    requires { ⌜ rotations < 1200000 ⌝ }
+    requires { ⌜ rotations + largest.n * largest.n < manyRotations ⌝ }
     ensures { λ _. ⌜ Sized n (now (a .exit)) (now (v .exit)) (now (d .exit)) (now (zw .exit)) ⌝ }
     ensures { λ r. ⌜ runAfter r (now (a .exit)) (now (v .exit)) (now (d .exit)) (now (zw .exit)) (now (bw .exit)) rotations «it_num»
         ≡ rule.step dualAlgebra n «it_num» (runOf (now (a .entry)) (now (v .entry)) (now (d .entry)) (now (zw .entry)) (now (bw .entry)) rotations «it_num») ⌝ }
-    ensures { λ r. ⌜ rotationsOf r ≤ rotations + 1024 ⌝ }
+    ensures { λ r. ⌜ rotationsOf r ≤ rotations + largest.n * largest.n ⌝ }
 {
     let thresh = threshold(n, a);
     if thresh == 0.0 {
@@ -172,7 +172,7 @@ pub(crate) fn sweeps(
     requires { ⌜ length (now bw) ≡ n * 2 ⌝ }
     requires { ⌜ limit ≤ largest.limit ⌝ }
     ensures { λ _. ⌜ Sized n (now (a .exit)) (now (v .exit)) (now (d .exit)) (now (zw .exit)) ⌝ }
-    ensures { λ r. ⌜ eigen (dualRecords (now (d .exit))) (dualRecords (now (v .exit))) (r .sweeps) (r .rotations) (r .stopped)
+    ensures { λ r. ⌜ eigenOf (now (d .exit)) (now (v .exit)) r
         ≡ ended (upto 0 limit (rule.step dualAlgebra n) (runOf (now (a .entry)) (now (v .entry)) (now (d .entry)) (now (zw .entry)) (now (bw .entry)) 0 0)) ⌝ }
 {
     let mut rotations = 0;

@@ -17,6 +17,10 @@ pub record Sized (n : ℕ) (a v d zw : List Float) : Type 0 where
   pub values : length d ≡ n * 2
   pub gains : length zw ≡ n * 2
 
+-- more rotations than any run makes: a count below it does not wrap
+abbrev pub manyRotations : ℕ
+manyRotations = 2000000
+
 -- what a sweep works on, in four buffers
 abbrev pub workOf : List Float → List Float → List Float → List Float → ℕ → Work Dual
 workOf a v d zw rotations = work (dualRecords a) (dualRecords v) (dualRecords d) (dualRecords zw) rotations

@@ -6,6 +6,7 @@ ghost use mathlib.Core.Path.{_≡_};
 ghost use Prim.Native.Nat.{_+_, _*_, _<_};
 ghost use lib.ListN.{length};
 ghost use Rattle.algebra.specs.Algebra.{zeroOf};
+ghost use Rattle.matrices.specs.Matrix as rule;
 ghost use Rattle.matrices.specs.Matrix.{Square, cell, store};
 ghost use Rattle.dual.specs.Rules.{dualAlgebra, dualRecords};
 
@@ -32,7 +33,7 @@ pub fn put(n: usize, a: &mut [f64], r: usize, c: usize, x: Dual)
 pub fn exchange(a: &mut [f64], p: usize, q: usize)
     requires { ⌜ p * 2 + 1 < length (now a) ⌝ }
     requires { ⌜ q * 2 + 1 < length (now a) ⌝ }
-    ensures { λ _. ⌜ dualRecords (now (a .exit)) ≡ Rattle.matrices.specs.Matrix.exchange (zeroOf dualAlgebra) p q (dualRecords (now (a .entry))) ⌝ }
+    ensures { λ _. ⌜ dualRecords (now (a .exit)) ≡ rule.exchange (zeroOf dualAlgebra) p q (dualRecords (now (a .entry))) ⌝ }
 {
     let x = read(a, p);
     let y = read(a, q);

@@ -11,7 +11,7 @@ ghost use Prim.Native.Nat.{_+_, _<_, _≤_};
 ghost use Rattle.dual.specs.Rules.{dualAlgebra};
 ghost use Rattle.rotations.specs.Rotation.{angle, pair};
 ghost use Rattle.rotations.specs.Rotation as rule;
-ghost use Rattle.rotations.specs.Buffers.{Sized, workOf};
+ghost use Rattle.rotations.specs.Buffers.{Sized, manyRotations, workOf};
 
 // The whole rotation.
 fn rotate(
@@ -29,7 +29,7 @@ fn rotate(
 ) -> usize
     requires { ⌜ Sized n (now a) (now v) (now d) (now zw) ⌝ }
     requires { ⌜ (p < q) × (q < n) ⌝ }
-    requires { ⌜ rotations < 2000000 ⌝ }
+    requires { ⌜ rotations < manyRotations ⌝ }
     ensures { λ _. ⌜ Sized n (now (a .exit)) (now (v .exit)) (now (d .exit)) (now (zw .exit)) ⌝ }
     ensures { λ r. ⌜ workOf (now (a .exit)) (now (v .exit)) (now (d .exit)) (now (zw .exit)) r
         ≡ rule.rotate dualAlgebra n p q (angle s tau h) (workOf (now (a .entry)) (now (v .entry)) (now (d .entry)) (now (zw .entry)) rotations) ⌝ }
@@ -57,7 +57,7 @@ pub fn pair(
 ) -> usize
     requires { ⌜ Sized n (now a) (now v) (now d) (now zw) ⌝ }
     requires { ⌜ (p < q) × (q < n) ⌝ }
-    requires { ⌜ rotations < 2000000 ⌝ }
+    requires { ⌜ rotations < manyRotations ⌝ }
     ensures { λ _. ⌜ Sized n (now (a .exit)) (now (v .exit)) (now (d .exit)) (now (zw .exit)) ⌝ }
     ensures { λ r. ⌜ workOf (now (a .exit)) (now (v .exit)) (now (d .exit)) (now (zw .exit)) r
         ≡ rule.pair dualAlgebra n thresh «it_num» p q (workOf (now (a .entry)) (now (v .entry)) (now (d .entry)) (now (zw .entry)) rotations) ⌝ }

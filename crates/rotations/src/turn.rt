@@ -9,7 +9,8 @@ ghost use Prim.Native.Nat.{_+_, _*_, _<_, _≤_};
 ghost use lib.ListN.{length};
 ghost use Rattle.dual.specs.Rules.{dualAlgebra, dualRecords};
 ghost use Rattle.matrices.specs.Matrix.{Square};
-ghost use Rattle.rotations.specs.Rotation.{turnedFirst, turnedSecond, turn, turnColumns, turnBetween, turnRows, turnAbove, shift};
+ghost use Rattle.rotations.specs.Rotation as rule;
+ghost use Rattle.rotations.specs.Rotation.{turnedFirst, turnedSecond, turnColumns, turnBetween, turnRows, turnAbove};
 
 // g - s * (h + g * tau)
 fn turned_first(s: Dual, tau: Dual, g: Dual, h: Dual) -> Dual
@@ -31,7 +32,7 @@ fn turn(n: usize, a: &mut [f64], s: Dual, tau: Dual, r: usize, c: usize, u: usiz
     requires { ⌜ (r < n) × (c < n) ⌝ }
     requires { ⌜ (u < n) × (w < n) ⌝ }
     ensures { λ _. ⌜ Square 2 n (now (a .exit)) ⌝ }
-    ensures { λ _. ⌜ dualRecords (now (a .exit)) ≡ Rattle.rotations.specs.Rotation.turn dualAlgebra n s tau r c u w (dualRecords (now (a .entry))) ⌝ }
+    ensures { λ _. ⌜ dualRecords (now (a .exit)) ≡ rule.turn dualAlgebra n s tau r c u w (dualRecords (now (a .entry))) ⌝ }
 {
     let g = get(n, a, r, c);
     let h = get(n, a, u, w);
@@ -101,7 +102,7 @@ pub(crate) fn turn_above(n: usize, a: &mut [f64], s: Dual, tau: Dual, p: usize, 
 pub(crate) fn shift(d: &mut [f64], p: usize, q: usize, h: Dual)
     requires { ⌜ p * 2 + 1 < length (now d) ⌝ }
     requires { ⌜ q * 2 + 1 < length (now d) ⌝ }
-    ensures { λ _. ⌜ dualRecords (now (d .exit)) ≡ Rattle.rotations.specs.Rotation.shift dualAlgebra p q h (dualRecords (now (d .entry))) ⌝ }
+    ensures { λ _. ⌜ dualRecords (now (d .exit)) ≡ rule.shift dualAlgebra p q h (dualRecords (now (d .entry))) ⌝ }
 {
     let x = read(d, p);
     write(d, p, x.sub(h));

@@ -5,17 +5,20 @@ use Rattle.jacobi.proofs.Ordered.{run-by}
 use Rattle.jacobi.proofs.run.Statement.{statement}
 use Rattle.jacobi.proofs.run.Tie as tie
 
+-- what the sweeps start from
+abbrev prepared : tie.After-sweeps → tie.After-prepare
+prepared swept = swept .before .before .before .before .before .before .before .before .before .before .before .before .before .before .before .before
+
 -- the sweeps keep the lengths; that n is not 0 the caller showed, too far back for a search
 sort-requires : tie.Need-sort-requires
-sort-requires c κs = (search needs, c .before .before .before .before .before .before .before .before .before .before .before .before .before .before .before .before .before .before .before .before .before .before .before .before .before .before .before .before .before .before .before .before .before .before .before .before .before .before .before .before .pre .1 .1 .1 .1 .0)
+sort-requires c κs = (search needs, prepared (c .before .before .before .before .before .before .before .before .before .before .before .before) .before .before .before .before .before .before .before .before .before .before .before .before .pre .1 .1 .1 .1 .0)
 
 -- the three calls, each from what the one before left
 returns : tie.Need-returns
 returns c =
     let sorted = c .before .before .before .before in
     let swept = sorted .before .before .before .before .before .before .before .before .before .before .before .before .before in
-    let prepared = swept .before .before .before .before .before .before .before .before .before .before .before .before .before .before .before .before in
-    run-by dualAlgebra _ _ _ _ _ _ _ _ _ _ _ (prepared .prepare .ensures .1) (swept .sweeps .ensures .1) (sorted .sort .ensures)
+    run-by dualAlgebra _ _ _ _ _ _ _ _ _ _ _ (prepared swept .prepare .ensures .1) (swept .sweeps .ensures .1) (sorted .sort .ensures)
 
 pub run-spec : {M : Type 1} → statement M
 run-spec =
