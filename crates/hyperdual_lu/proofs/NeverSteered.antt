@@ -5,23 +5,19 @@ use Rattle.hyperdual.specs.Rules.{hyperDualAlgebra, outcome}
 use Rattle.matrices.specs.Answers.{luOutcome, luColumn, solveOutcome}
 use Rattle.matrices.proofs.Calls.{LuNeverSteered, lu-never-steered-by, SolveNeverSteered, solve-never-steered-by, InverseNeverSteered, inverse-never-steered-by, DeterminantNeverSteered, determinant-never-steered-by}
 use Rattle.hyperdual.proofs.Flat.{hyper-dual-laws}
-use Rattle.hyperdual_lu.proofs.lu.Kinds as lu-k
-use Rattle.hyperdual_lu.proofs.lu.Reads as lu-r
-use Rattle.hyperdual_lu.proofs.solve.Kinds as solve-k
-use Rattle.hyperdual_lu.proofs.solve.Reads as solve-r
-use Rattle.hyperdual_lu.proofs.determinant.Kinds as determinant-k
-use Rattle.hyperdual_lu.proofs.determinant.Reads as determinant-r
-use Rattle.hyperdual_lu.proofs.inverse.Kinds as inverse-k
-use Rattle.hyperdual_lu.proofs.inverse.Reads as inverse-r
+use Rattle.hyperdual_lu.proofs.lu as lu
+use Rattle.hyperdual_lu.proofs.solve as solve
+use Rattle.hyperdual_lu.proofs.determinant as determinant
+use Rattle.hyperdual_lu.proofs.inverse as inverse
 
-pub lu-never-steered : LuNeverSteered lu-k.r (λ κs x. luOutcome x) (λ κs x. luColumn x) 4 lu-r.Post
-lu-never-steered = lu-never-steered-by lu-k.r (λ κs x. luOutcome x) (λ κs x. luColumn x) hyper-dual-laws
+pub lu-never-steered : LuNeverSteered lu.Kinds.r (λ κs x. luOutcome x) (λ κs x. luColumn x) 4 lu.Reads.Post
+lu-never-steered = lu-never-steered-by lu.Kinds.r (λ κs x. luOutcome x) (λ κs x. luColumn x) hyper-dual-laws
 
-pub solve-never-steered : SolveNeverSteered solve-k.r (λ κs x. solveOutcome x) 4 solve-r.Post
-solve-never-steered = solve-never-steered-by solve-k.r (λ κs x. solveOutcome x) hyper-dual-laws
+pub solve-never-steered : SolveNeverSteered solve.Kinds.r (λ κs x. solveOutcome x) 4 solve.Reads.Post
+solve-never-steered = solve-never-steered-by solve.Kinds.r (λ κs x. solveOutcome x) hyper-dual-laws
 
-pub inverse-never-steered : InverseNeverSteered inverse-k.r (λ κs x. solveOutcome x) 4 inverse-r.Post
-inverse-never-steered = inverse-never-steered-by inverse-k.r (λ κs x. solveOutcome x) hyper-dual-laws
+pub inverse-never-steered : InverseNeverSteered inverse.Kinds.r (λ κs x. solveOutcome x) 4 inverse.Reads.Post
+inverse-never-steered = inverse-never-steered-by inverse.Kinds.r (λ κs x. solveOutcome x) hyper-dual-laws
 
-pub determinant-never-steered : DeterminantNeverSteered hyperDualAlgebra determinant-k.r (λ κs x. outcome x) 4 determinant-r.Post
-determinant-never-steered = determinant-never-steered-by hyper-dual-laws determinant-k.r (λ κs x. outcome x)
+pub determinant-never-steered : DeterminantNeverSteered hyperDualAlgebra determinant.Kinds.r (λ κs x. outcome x) 4 determinant.Reads.Post
+determinant-never-steered = determinant-never-steered-by hyper-dual-laws determinant.Kinds.r (λ κs x. outcome x)

@@ -5,23 +5,19 @@ use Rattle.hyperdual.proofs.OneAnswer.{outcome-one}
 use Rattle.matrices.specs.Answers.{luOutcome, luColumn, solveOutcome}
 use Rattle.matrices.proofs.Calls.{lu-one, solve-one, lu-only-by, solve-only-by, inverse-only-by, determinant-only-by}
 use Rattle.hyperdual.proofs.Flat.{hyper-dual-laws}
-use Rattle.hyperdual_lu.proofs.lu.Kinds as lu-k
-use Rattle.hyperdual_lu.proofs.lu.Reads as lu-r
-use Rattle.hyperdual_lu.proofs.solve.Kinds as solve-k
-use Rattle.hyperdual_lu.proofs.solve.Reads as solve-r
-use Rattle.hyperdual_lu.proofs.determinant.Kinds as determinant-k
-use Rattle.hyperdual_lu.proofs.determinant.Reads as determinant-r
-use Rattle.hyperdual_lu.proofs.inverse.Kinds as inverse-k
-use Rattle.hyperdual_lu.proofs.inverse.Reads as inverse-r
+use Rattle.hyperdual_lu.proofs.lu as lu
+use Rattle.hyperdual_lu.proofs.solve as solve
+use Rattle.hyperdual_lu.proofs.determinant as determinant
+use Rattle.hyperdual_lu.proofs.inverse as inverse
 
-pub lu-only : Only 3 lu-k.ps lu-k.r lu-r.Pre lu-r.Post
-lu-only = lu-only-by lu-k.r (λ κs x. luOutcome x) (λ κs x. luColumn x) hyper-dual-laws (λ κs. lu-one) lu-r.Pre
+pub lu-only : Only 3 lu.Kinds.ps lu.Kinds.r lu.Reads.Pre lu.Reads.Post
+lu-only = lu-only-by lu.Kinds.r (λ κs x. luOutcome x) (λ κs x. luColumn x) hyper-dual-laws (λ κs. lu-one) lu.Reads.Pre
 
-pub solve-only : Only 4 solve-k.ps solve-k.r solve-r.Pre solve-r.Post
-solve-only = solve-only-by solve-k.r (λ κs x. solveOutcome x) hyper-dual-laws (λ κs. solve-one) solve-r.Pre
+pub solve-only : Only 4 solve.Kinds.ps solve.Kinds.r solve.Reads.Pre solve.Reads.Post
+solve-only = solve-only-by solve.Kinds.r (λ κs x. solveOutcome x) hyper-dual-laws (λ κs. solve-one) solve.Reads.Pre
 
-pub inverse-only : Only 3 inverse-k.ps inverse-k.r inverse-r.Pre inverse-r.Post
-inverse-only = inverse-only-by inverse-k.r (λ κs x. solveOutcome x) hyper-dual-laws (λ κs. solve-one) inverse-r.Pre
+pub inverse-only : Only 3 inverse.Kinds.ps inverse.Kinds.r inverse.Reads.Pre inverse.Reads.Post
+inverse-only = inverse-only-by inverse.Kinds.r (λ κs x. solveOutcome x) hyper-dual-laws (λ κs. solve-one) inverse.Reads.Pre
 
-pub determinant-only : Only 2 determinant-k.ps determinant-k.r determinant-r.Pre determinant-r.Post
-determinant-only = determinant-only-by hyper-dual-laws determinant-k.r (λ κs x. outcome x) (λ κs. outcome-one) determinant-r.Pre
+pub determinant-only : Only 2 determinant.Kinds.ps determinant.Kinds.r determinant.Reads.Pre determinant.Reads.Post
+determinant-only = determinant-only-by hyper-dual-laws determinant.Kinds.r (λ κs x. outcome x) (λ κs. outcome-one) determinant.Reads.Pre

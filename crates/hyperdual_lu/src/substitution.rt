@@ -91,7 +91,7 @@ fn run_back(n: usize, a: &[f64], x: &mut [f64], stride: usize, base: usize)
 }
 
 // Forward, then back, from the starts that stand in x.
-fn run(n: usize, a: &[f64], x: &mut [f64], stride: usize, base: usize)
+fn substitute(n: usize, a: &[f64], x: &mut [f64], stride: usize, base: usize)
     requires { ⌜ Square 4 n (now a) ⌝ }
     requires { ⌜ Strided 4 n stride base (now x) ⌝ }
     ensures { λ _. ⌜ hyperDualRecords (now (x .exit)) ≡ substituteFrom hyperDualAlgebra n (hyperDualRecords (now (a .entry))) stride base (hyperDualRecords (now (x .entry))) ⌝ }
@@ -122,7 +122,7 @@ pub(crate) fn solve_run(n: usize, a: &[f64], order: &[usize], b: &[f64], x: &mut
     ensures { λ _. ⌜ hyperDualRecords (now (x .exit)) ≡ solveOf hyperDualAlgebra n (hyperDualRecords (now (a .entry))) (now (order .entry)) (hyperDualRecords (now (b .entry))) ⌝ }
 {
     solve_starts(n, order, b, x);
-    run(n, a, x, 1, 0);
+    substitute(n, a, x, 1, 0);
 }
 
 // Row i of the starts of inverse is one at column order[i], else zero.
@@ -147,6 +147,6 @@ pub(crate) fn inverse_run(n: usize, a: &[f64], order: &[usize], x: &mut [f64])
 {
     inverse_starts(n, order, x);
     for j in 0..n {
-        run(n, a, x, n, j);
+        substitute(n, a, x, n, j);
     }
 }

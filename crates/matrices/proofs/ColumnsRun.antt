@@ -82,12 +82,12 @@ module _ {R : Type 0} {A : Algebra R} {L : Layout R} (Q : Laws A L) where
   counted-up n o q e h = e ∙ ap countUp h
 
   module _ (n : ℕ) (a f l m : List Float) (o q p : List ℕ) (r : AfterColumn) (square : Square (L .width) n f) (long : length o ≡ n)
-      (copied : l ≡ a) (ran : luOf A n (decode L l) ≡ runAfter r (decode L m) p) (kept : length l ≡ length f) (held : length m ≡ length l) (same-order : length q ≡ length o) (ordered : length p ≡ length q) where
+      (copied : l ≡ a) (ran : luOf A n (decode L l) ≡ runAfter r (decode L m) p) (copy-size : length l ≡ length f) (run-size : length m ≡ length l) (count-size : length q ≡ length o) (order-size : length p ≡ length q) where
     whole : luOf A n (decode L a) ≡ runAfter r (decode L m) p
     whole = ap (λ (k : List Float). luOf A n (decode L k)) (sym copied) ∙ ran
 
     full : length m ≡ n * n * L .width
-    full = held ∙ kept ∙ square .full
+    full = run-size ∙ copy-size ∙ square .full
 
     pub factor-done : (swaps : ℕ) → r ≡ Going swaps → luAnswered (value swaps) 0 m p ≡ luFinish A L n (luOf A n (decode L a))
     factor-done swaps g = finish-done A L (Q .lawful) n (luOf A n (decode L a)) m p swaps (whole ∙ ap (λ (s : AfterColumn). runAfter s (decode L m) p) g) full
@@ -96,4 +96,4 @@ module _ {R : Type 0} {A : Algebra R} {L : Layout R} (Q : Laws A L) where
         → luAnswered (refused 6) c g z ≡ luFinish A L n (luOf A n (decode L a))
     factor-singular c g z e eg ez =
         finish-singular A L (Q .lawful) n (luOf A n (decode L a)) g z c (whole ∙ ap (λ (s : AfterColumn). runAfter s (decode L m) p) e)
-        (eg ∙ ap (λ (k : ℕ). replicate k float.zero) full) (ez ∙ ap (λ (k : ℕ). replicate k 0) (ordered ∙ same-order ∙ long))
+        (eg ∙ ap (λ (k : ℕ). replicate k float.zero) full) (ez ∙ ap (λ (k : ℕ). replicate k 0) (order-size ∙ count-size ∙ long))

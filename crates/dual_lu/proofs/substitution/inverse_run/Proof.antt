@@ -16,8 +16,8 @@ abbrev μ-loop : tie.MeasureT-loop
 μ-loop n a order x₀ j₀ x j = n - j
 
 -- column j is a vector in the floats
-run-requires : tie.Need-run-requires Inv-loop μ-loop
-run-requires c κs =
+substitute-requires : tie.Need-substitute-requires Inv-loop μ-loop
+substitute-requires c κs =
     let at = c .before .before in
     let sq : Square 2 (at .before .before .before .before .before .before .before .before .args .n) (at .loop .x) = search needs in
     (search needs, strided-column 2 _ _ _ sq (c .before .loop-test .taken))
@@ -28,7 +28,7 @@ inverse-run-spec =
     (tie.spec Inv-loop μ-loop
     (λ c κs. search needs)
     (λ c. search (needs, inverse-start dual-laws))
-    run-requires
+    substitute-requires
     (λ c. search needs) (λ c. search needs)
     (λ c. search (needs, run-turn dual-laws))
     (λ c. search needs)

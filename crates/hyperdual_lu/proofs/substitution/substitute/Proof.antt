@@ -3,11 +3,11 @@ use borrow.Author.Needs.{needs}
 use Rattle.matrices.proofs.Places.{strided-keep}
 use Rattle.matrices.proofs.Substitution.{substituted}
 use Rattle.hyperdual.proofs.Flat.{hyper-dual-laws}
-use Rattle.hyperdual_lu.proofs.substitution.run.Statement.{statement}
-use Rattle.hyperdual_lu.proofs.substitution.run.Tie as tie
+use Rattle.hyperdual_lu.proofs.substitution.substitute.Statement.{statement}
+use Rattle.hyperdual_lu.proofs.substitution.substitute.Tie as tie
 
-pub run-spec : {M : Type 1} → statement M
-run-spec =
+pub substitute-spec : {M : Type 1} → statement M
+substitute-spec =
     tie.close
     (tie.spec
     (λ c κs. search needs)
