@@ -73,8 +73,8 @@ int main(void) {
     /* Cues at one time make each row a multiple of the other, and the second pivot zero; but rounding may leave a bit
        of it, 2^-47 of 49 for instance, and LU takes that. So it is held to the entry that it is left of: at 10^-9 of
        it more than half of its digits are lost. */
-    size_t order[2], beside;
-    uint32_t number = evindrast_lu(2, a, 8, factors, 8, order, 2, &beside);
+    size_t order[2], swaps_or_column;
+    uint32_t number = evindrast_lu(2, a, 8, factors, 8, order, 2, &swaps_or_column);
     if (number == EVINDRAST_SINGULAR || fabs(factors[6]) <= 1e-9 * fabs(a[4 * order[1] + 2]))
         return refused("the cues are too close to each other to tell a rate from an offset");
     number |= evindrast_solve(2, factors, 8, order, 2, b, 4, x, 4);

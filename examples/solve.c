@@ -14,15 +14,15 @@ int main(void) {
         return 1;
     }
     double factors[8], x[4], det[2];
-    size_t order[2], beside;
-    uint32_t number = evindrast_lu(2, a, 8, factors, 8, order, 2, &beside);
+    size_t order[2], swaps_or_column;
+    uint32_t number = evindrast_lu(2, a, 8, factors, 8, order, 2, &swaps_or_column);
     if (number == EVINDRAST_SINGULAR) {
-        printf("singular at column %zu\n", beside);
+        printf("singular at column %zu\n", swaps_or_column);
         return 1;
     }
     /* these lengths and this order are those wanted, so neither call is refused */
     number = evindrast_solve(2, factors, 8, order, 2, b, 4, x, 4);
-    number |= evindrast_determinant(2, factors, 8, order, 2, beside, &det[0], &det[1]);
+    number |= evindrast_determinant(2, factors, 8, order, 2, swaps_or_column, &det[0], &det[1]);
 
     /* the sine of x: the caller's own sine and cosine of its value, the chain rule of the library */
     double supplied[2] = {sin(x[0]), cos(x[0])}, sine[2];

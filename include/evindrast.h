@@ -197,13 +197,13 @@ uint64_t evindrast_sqrt_word(uint64_t w);
    records; w doubles a record, so w is 2 or 4.
    a, factors: w * n * n doubles; order: n entries.
    At 0: `factors` holds both factors (the unit diagonal of the lower one left out), `order` the row of a that each row
-   came from, `*beside` the number of swaps. At 6: `factors` is all +0.0, `order` all 0, `*beside` the column in which
-   no pivot exceeds zero.
+   came from, `*swaps_or_column` the number of swaps. At 6: `factors` is all +0.0, `order` all 0, `*swaps_or_column` the
+   column in which no pivot exceeds zero.
    Answers: 0, 1, 2, 6. */
 uint32_t evindrast_lu(size_t n, const double *a, size_t a_len, double *factors, size_t factors_len, size_t *order,
-                      size_t order_len, size_t *beside);
+                      size_t order_len, size_t *swaps_or_column);
 uint32_t evindrast_hyperdual_lu(size_t n, const double *a, size_t a_len, double *factors, size_t factors_len,
-                                size_t *order, size_t order_len, size_t *beside);
+                                size_t *order, size_t order_len, size_t *swaps_or_column);
 
 /* x with a * x = b, from the factors and the order of a. A zero on the diagonal is not refused: infinities and NaNs
    follow.

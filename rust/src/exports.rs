@@ -148,7 +148,7 @@ macro_rules! matrices {
                 factors_len: usize,
                 order: *mut usize,
                 order_len: usize,
-                beside: *mut usize,
+                swaps_or_column: *mut usize,
             ) -> u32;
             fn $library_solve(
                 n: usize,
@@ -183,14 +183,14 @@ macro_rules! matrices {
 
         #[doc = concat!("LU of a matrix of [`", $record, "`](crate::", $record, "), ")]
         #[doc = concat!($floats, "n² floats.")]
-        /// `beside` becomes the swap count at 0; at 6 it is the column, and `factors` and `order`
-        /// are zero. Answers: 0, 1, 2, 6.
+        /// `swaps_or_column` becomes the swap count at 0; at 6 it is the column, and `factors` and
+        /// `order` are zero. Answers: 0, 1, 2, 6.
         pub fn $lu(
             n: usize,
             a: &[f64],
             factors: &mut [f64],
             order: &mut [usize],
-            beside: &mut usize,
+            swaps_or_column: &mut usize,
         ) -> u32 {
             unsafe {
                 $library_lu(
@@ -201,7 +201,7 @@ macro_rules! matrices {
                     factors.len(),
                     order.as_mut_ptr(),
                     order.len(),
-                    beside,
+                    swaps_or_column,
                 )
             }
         }

@@ -6,7 +6,7 @@ mod library {
     /// The library's functions for matrices of one kind of record; what the lengths are, and when
     /// what is written, is as in [`exports`](crate::exports).
     pub trait Entries: Sized {
-        fn lu(a: &[Self], f: &mut [Self], order: &mut [usize], beside: &mut usize) -> u32;
+        fn lu(a: &[Self], f: &mut [Self], order: &mut [usize], swaps_or_column: &mut usize) -> u32;
         fn solve(factors: &[Self], order: &[usize], b: &[Self], x: &mut [Self]) -> u32;
         fn determinant(f: &[Self], order: &[usize], swaps: usize, out: &mut Self) -> u32;
         fn inverse(factors: &[Self], order: &[usize], out: &mut [Self]) -> u32;
@@ -23,8 +23,13 @@ macro_rules! entry {
         impl Entry for $record {}
 
         impl library::Entries for $record {
-            fn lu(a: &[Self], f: &mut [Self], order: &mut [usize], beside: &mut usize) -> u32 {
-                exports::$lu(order.len(), floats(a), floats_mut(f), order, beside)
+            fn lu(
+                a: &[Self],
+                f: &mut [Self],
+                order: &mut [usize],
+                swaps_or_column: &mut usize,
+            ) -> u32 {
+                exports::$lu(order.len(), floats(a), floats_mut(f), order, swaps_or_column)
             }
 
             fn solve(factors: &[Self], order: &[usize], b: &[Self], x: &mut [Self]) -> u32 {
@@ -93,10 +98,10 @@ impl<T: Entry> LU<T> {
     pub fn new(a: &Matrix<T>) -> Result<Self, Refusal> {
         let mut factors = Matrix::zeros(a.n());
         let mut order = vec![0; a.n()];
-        let mut beside = 0;
-        let number = T::lu(a.entries(), factors.entries_mut(), &mut order, &mut beside);
-        Refusal::check(number, beside)?;
-        Ok(Self { factors, order, swaps: beside })
+        let mut swaps_or_column = 0;
+        let number = T::lu(a.entries(), factors.entries_mut(), &mut order, &mut swaps_or_column);
+        Refusal::check(number, swaps_or_column)?;
+        Ok(Self { factors, order, swaps: swaps_or_column })
     }
 
     /// From factors, order and swap count, be they LU's own or not.

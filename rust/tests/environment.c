@@ -10,14 +10,14 @@ static const int directions[] = {FE_TONEAREST, FE_UPWARD, FE_DOWNWARD, FE_TOWARD
 int main(void) {
     for (size_t i = 0; i < sizeof directions / sizeof directions[0]; i++) {
         double matrix[2] = {0, 1}, factors[2];
-        size_t order[1], beside;
+        size_t order[1], swaps_or_column;
         const uint64_t least = 1;
         memcpy(matrix, &least, sizeof least);
         if (fesetround(directions[i]) != 0)
             return 1;
         int told = evindrast_environment();
         uint64_t root = evindrast_sqrt_word(least);
-        uint32_t number = evindrast_lu(1, matrix, 2, factors, 2, order, 1, &beside);
+        uint32_t number = evindrast_lu(1, matrix, 2, factors, 2, order, 1, &swaps_or_column);
         fesetround(FE_TONEAREST);
         printf("%d %" PRIx64 " %" PRIu32 "\n", told, root, number);
     }

@@ -26,9 +26,9 @@ fn every_other_one_is_told() {
 
 /// The root of 2^-1074 by its bits, and LU's answer to the 1 by 1 matrix (2^-1074, 1).
 fn root_and_matrix() -> (u64, u32) {
-    let (mut factors, mut order, mut beside) = ([7.0; 2], [7], 7);
+    let (mut factors, mut order, mut swaps_or_column) = ([7.0; 2], [7], 7);
     let matrix = [f64::from_bits(1), 1.0];
-    let number = exports::lu(1, &matrix, &mut factors, &mut order, &mut beside);
+    let number = exports::lu(1, &matrix, &mut factors, &mut order, &mut swaps_or_column);
     (exports::sqrt_word(1), number)
 }
 

@@ -75,12 +75,12 @@ fn lengths_and_limits_are_checked() {
 #[test]
 fn a_refused_call_writes_nothing_but_lus_six() {
     let mut factors = [7.0; 8];
-    let (mut order, mut beside) = ([9; 2], 5);
-    assert_eq!(exports::lu(2, &[1.0; 6], &mut factors, &mut order, &mut beside), 2);
-    assert_eq!((factors, order, beside), ([7.0; 8], [9; 2], 5));
+    let (mut order, mut swaps_or_column) = ([9; 2], 5);
+    assert_eq!(exports::lu(2, &[1.0; 6], &mut factors, &mut order, &mut swaps_or_column), 2);
+    assert_eq!((factors, order, swaps_or_column), ([7.0; 8], [9; 2], 5));
     let singular = [1.0, 0.0, 2.0, 0.0, 1.0, 0.0, 2.0, 0.0];
-    assert_eq!(exports::lu(2, &singular, &mut factors, &mut order, &mut beside), 6);
-    assert_eq!((factors, order, beside), ([0.0; 8], [0; 2], 1));
+    assert_eq!(exports::lu(2, &singular, &mut factors, &mut order, &mut swaps_or_column), 6);
+    assert_eq!((factors, order, swaps_or_column), ([0.0; 8], [0; 2], 1));
 }
 
 #[test]

@@ -93,21 +93,25 @@ fn lu<const W: usize>(random: &mut Random, matrices: &Matrices<W>, seen: &mut [u
     let call = Call::new(random, W);
     let singular = random.below(4) == 0;
     let a = call.matrix(W, singular);
-    let (mut factors, mut beside) = (filled(call.square[1]), 77);
+    let (mut factors, mut swaps_or_column) = (filled(call.square[1]), 77);
     let mut order = vec![77; call.order.len()];
-    let number = (matrices.lu)(call.n, &a, &mut factors, &mut order, &mut beside);
+    let number = (matrices.lu)(call.n, &a, &mut factors, &mut order, &mut swaps_or_column);
     let wanted = match call.wanted(W, 2, 0, false) {
         0 if singular && call.n > 0 => 6,
         number => number,
     };
     assert_eq!(number, wanted, "LU, n = {}, {:?}, order {}", call.n, call.square, order.len());
     match number {
-        0 => assert!(beside == 0 && order.iter().enumerate().all(|(place, row)| place == *row)),
+        0 => assert!(
+            swaps_or_column == 0 && order.iter().enumerate().all(|(place, row)| place == *row)
+        ),
         6 => {
             assert!(factors.iter().all(|float| float.to_bits() == 0));
-            assert!(beside == 0 && order.iter().all(|row| *row == 0));
+            assert!(swaps_or_column == 0 && order.iter().all(|row| *row == 0));
         }
-        _ => assert!(untouched(&factors) && beside == 77 && order.iter().all(|row| *row == 77)),
+        _ => assert!(
+            untouched(&factors) && swaps_or_column == 77 && order.iter().all(|row| *row == 77)
+        ),
     }
     seen[number as usize] += 1;
 }

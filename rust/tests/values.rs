@@ -68,9 +68,9 @@ fn p7_thirty_two_rows_and_one_more() {
     let refusal = identity(33).and_then(|a| jacobi_eigenvalue(&a, 50)).unwrap_err();
     assert_eq!(refusal, Refusal::TooLarge);
     let (a, mut out, mut values) = ([1.0; 2178], [0.0; 2178], [0.0; 66]);
-    let (mut order, mut beside) = ([0; 33], 0);
-    assert_eq!(exports::lu(33, &a, &mut out, &mut order, &mut beside), 1);
-    assert_eq!(exports::jacobi_eigenvalue(33, &a, 50, &mut values, &mut out, &mut beside), 1);
+    let (mut order, mut swaps_or_column, mut sweeps) = ([0; 33], 0, 0);
+    assert_eq!(exports::lu(33, &a, &mut out, &mut order, &mut swaps_or_column), 1);
+    assert_eq!(exports::jacobi_eigenvalue(33, &a, 50, &mut values, &mut out, &mut sweeps), 1);
 }
 
 #[test]

@@ -6,6 +6,7 @@ use mathlib.Core.List.{List}
 use lib.Dec.{eqb}
 use lib.Ieee.{Float}
 use borrow.Author.Tests.{eq-eqb, ne-eqb}
+use Rattle.refusals.specs.Number as refusal
 use Rattle.algebra.specs.Outcome.{numberOf}
 use Rattle.matrices.specs.Entries.{LuLeft, luAnswered, SolveLeft, solveAnswered}
 use Rattle.matrices.specs.Answers.{luOutcome, luColumn, solveOutcome}
@@ -16,30 +17,30 @@ use Rattle.jacobi.specs.Entry.{JacobiLeft, jacobiAnswered}
 use Rattle.jacobi.specs.Answer.{outcome}
 use Rattle.jacobi.specs.declared.JacobiAnswer.{JacobiAnswer}
 use Rattle.jacobi.specs.declared.JacobiAnswer.the-variants as jacobi
-use Rattle.exports.specs.Numbered.{besideOf, luNumbered, solveNumbered, jacobiNumbered}
+use Rattle.exports.specs.Numbered.{swapsOrColumn, luNumbered, solveNumbered, jacobiNumbered}
 
 -- the answer is k, and the entry left l: what crosses is l's
 pub crossed : {A L T : Type 0} (reading : A → L) (cross : L → T) (answer k : A) (l : L) → reading answer ≡ l → answer ≡ k → cross (reading k) ≡ cross l
 crossed reading cross answer k l promise told = ap cross (ap reading (sym told) ∙ promise)
 
--- LU refused: at 6 the column stands beside the number, else what stood there stays
+-- LU refused: at 6 the column is written, else what stood there stays
 module _ (before : ℕ) (answer : LuAnswer) (k c : ℕ) (told : answer ≡ Refused k c) (number : ℕ) (read : number ≡ numberOf (luOutcome answer)) where
-  beside : cond (eqb number 6) (luColumn answer) before ≡ besideOf before (luOutcome answer) (luColumn answer)
-  beside =
-      ap (λ (x : ℕ). cond (eqb x 6) (luColumn answer) before) read
-      ∙ ap (λ (r : LuAnswer). cond (eqb (numberOf (luOutcome r)) 6) (luColumn r) before) told
-      ∙ ap (λ (r : LuAnswer). besideOf before (luOutcome r) (luColumn r)) (sym told)
+  by-number : cond (eqb number refusal.singular) (luColumn answer) before ≡ swapsOrColumn before (luOutcome answer) (luColumn answer)
+  by-number =
+      ap (λ (x : ℕ). cond (eqb x refusal.singular) (luColumn answer) before) read
+      ∙ ap (λ (r : LuAnswer). cond (eqb (numberOf (luOutcome r)) refusal.singular) (luColumn r) before) told
+      ∙ ap (λ (r : LuAnswer). swapsOrColumn before (luOutcome r) (luColumn r)) (sym told)
 
-  pub lu-singular : (column : ℕ) → column ≡ luColumn answer → number ≡ 6 → (number ≡ numberOf (luOutcome answer)) × (column ≡ besideOf before (luOutcome answer) (luColumn answer))
-  lu-singular column e six = (read, e ∙ ap (λ (b : Bool). cond b (luColumn answer) before) (sym (eq-eqb number 6 six)) ∙ beside)
+  pub lu-singular : (column : ℕ) → column ≡ luColumn answer → number ≡ refusal.singular → (number ≡ numberOf (luOutcome answer)) × (column ≡ swapsOrColumn before (luOutcome answer) (luColumn answer))
+  lu-singular column e six = (read, e ∙ ap (λ (b : Bool). cond b (luColumn answer) before) (sym (eq-eqb number refusal.singular six)) ∙ by-number)
 
-  pub lu-refused : (number ≡ 6 → ⊥) → (number ≡ numberOf (luOutcome answer)) × (before ≡ besideOf before (luOutcome answer) (luColumn answer))
-  lu-refused other = (read, ap (λ (b : Bool). cond b (luColumn answer) before) (sym (ne-eqb number 6 other)) ∙ beside)
+  pub lu-refused : (number ≡ refusal.singular → ⊥) → (number ≡ numberOf (luOutcome answer)) × (before ≡ swapsOrColumn before (luOutcome answer) (luColumn answer))
+  lu-refused other = (read, ap (λ (b : Bool). cond b (luColumn answer) before) (sym (ne-eqb number refusal.singular other)) ∙ by-number)
 
--- LU: its number, what stands beside it and both buffers cross
-pub lu-crossed : (before number after : ℕ) (factors : List Float) (order : List ℕ) (answer : LuAnswer) (l : LuLeft) → number ≡ numberOf (luOutcome answer) → after ≡ besideOf before (luOutcome answer) (luColumn answer)
+-- LU: its number, the swap count or the column, and both buffers cross
+pub lu-crossed : (before number after : ℕ) (factors : List Float) (order : List ℕ) (answer : LuAnswer) (l : LuLeft) → number ≡ numberOf (luOutcome answer) → after ≡ swapsOrColumn before (luOutcome answer) (luColumn answer)
     → luAnswered (luOutcome answer) (luColumn answer) factors order ≡ l → (number, (after, (factors, order))) ≡ luNumbered before l
-lu-crossed before number after factors order answer l told beside promise = (λ i. (told i, (beside i, (factors, order)))) ∙ ap (luNumbered before) promise
+lu-crossed before number after factors order answer l told written promise = (λ i. (told i, (written i, (factors, order)))) ∙ ap (luNumbered before) promise
 
 -- solve and inverse: the number and the result cross
 pub solve-crossed : (number : ℕ) (x : List Float) (answer : SolveAnswer) (l : SolveLeft) → number ≡ numberOf (solveOutcome answer) → solveAnswered (solveOutcome answer) x ≡ l → (number, x) ≡ solveNumbered l

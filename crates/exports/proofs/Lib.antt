@@ -1,5 +1,5 @@
 -- Laws that the proofs cite.
 mod Crossed
-mod NoKind
+mod KindArms
 -- this crate's promises leave one outcome each
 mod OneAnswer

@@ -16,14 +16,14 @@ abbrev pub countOf : ℕ → Outcome ℕ → ℕ
 countOf before (value count) = count
 countOf before (refused number) = before
 
--- beside LU's number: the swap count, or at 6 the column; else as it was
-abbrev pub besideOf : ℕ → Outcome ℕ → ℕ → ℕ
-besideOf before (value swaps) column = swaps
-besideOf before (refused number) column = cond (eqb number refusal.singular) column before
+-- the swap count where LU is done, at 6 the column, else as it was
+abbrev pub swapsOrColumn : ℕ → Outcome ℕ → ℕ → ℕ
+swapsOrColumn before (value swaps) column = swaps
+swapsOrColumn before (refused number) column = cond (eqb number refusal.singular) column before
 
--- LU: the number, what stands beside it, the factors, the order
+-- LU: the number, the swap count or the column, the factors, the order
 abbrev pub luNumbered : ℕ → LuLeft → ℕ × (ℕ × (List Float × List ℕ))
-luNumbered before l = (numberOf (l .answer), (besideOf before (l .answer) (l .column), (l .factors, l .order)))
+luNumbered before l = (numberOf (l .answer), (swapsOrColumn before (l .answer) (l .column), (l .factors, l .order)))
 
 -- solve and inverse: the number, the result
 abbrev pub solveNumbered : SolveLeft → ℕ × List Float

@@ -6,19 +6,19 @@ ghost use Rattle.hyperdual.specs.Rules.{hyperDualAlgebra, hyperDualLayout};
 ghost use Rattle.matrices.specs.Entries.{luLeft, solveLeft, inverseLeft, determinantLeft};
 ghost use Rattle.exports.specs.Numbered.{luNumbered, solveNumbered, hyperDualDeterminantNumbered};
 
-// The factors of a and the order of its rows. `beside` is written at 0, with the swap count, and at 6, with the column in which no pivot exceeds zero.
+// The factors of a and the order of its rows. `swaps_or_column` is written at 0, with the swap count, and at 6, with the column in which no pivot exceeds zero.
 #[no_mangle]
 pub extern "C" fn evindrast_hyperdual_lu(
     n: usize,
     a: &[f64],
     factors: &mut [f64],
     order: &mut [usize],
-    beside: &mut usize,
+    swaps_or_column: &mut usize,
 ) -> u32
-    ensures { λ r. ⌜ (r, (now (beside .exit), (now (factors .exit), now (order .exit)))) ≡ luNumbered (now (beside .entry)) (luLeft hyperDualAlgebra hyperDualLayout n (now (a .entry)) (now (factors .entry)) (now (order .entry))) ⌝ }
+    ensures { λ r. ⌜ (r, (now («swaps_or_column» .exit), (now (factors .exit), now (order .exit)))) ≡ luNumbered (now («swaps_or_column» .entry)) (luLeft hyperDualAlgebra hyperDualLayout n (now (a .entry)) (now (factors .entry)) (now (order .entry))) ⌝ }
 {
     let answer = hyperdual_lu::lu(n, a, factors, order);
-    lu_number(answer, beside)
+    lu_number(answer, swaps_or_column)
 }
 
 // x with a * x = b, from the factors and the order of a.

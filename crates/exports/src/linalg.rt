@@ -8,37 +8,37 @@ ghost use Rattle.matrices.specs.Entries.{luLeft, solveLeft, inverseLeft, determ
 ghost use Rattle.jacobi.specs.Entry.{jacobiLeft};
 ghost use Rattle.algebra.specs.Outcome.{numberOf};
 ghost use Rattle.matrices.specs.Answers.{luOutcome, luColumn};
-ghost use Rattle.exports.specs.Numbered.{besideOf, luNumbered, solveNumbered, determinantNumbered, jacobiNumbered};
+ghost use Rattle.exports.specs.Numbered.{swapsOrColumn, luNumbered, solveNumbered, determinantNumbered, jacobiNumbered};
 
-// The number of an answer of LU; beside it the swap count, or at 6 the column.
-pub(crate) fn lu_number(answer: LuAnswer, beside: &mut usize) -> u32
+// The number of an answer of LU; with it the swap count, or at 6 the column.
+pub(crate) fn lu_number(answer: LuAnswer, swaps_or_column: &mut usize) -> u32
     ensures { λ r. ⌜ r ≡ numberOf (luOutcome answer) ⌝ }
-    ensures { λ _. ⌜ now (beside .exit) ≡ besideOf (now (beside .entry)) (luOutcome answer) (luColumn answer) ⌝ }
+    ensures { λ _. ⌜ now («swaps_or_column» .exit) ≡ swapsOrColumn (now («swaps_or_column» .entry)) (luOutcome answer) (luColumn answer) ⌝ }
 {
     let LuAnswer::Done { swaps } = answer else {
         let number = answer.number();
         if number == refusals::SINGULAR {
-            *beside = answer.column();
+            *swaps_or_column = answer.column();
         }
         return number;
     };
-    *beside = swaps;
+    *swaps_or_column = swaps;
     0
 }
 
-// The factors of a and the order of its rows. `beside` is written at 0, with the swap count, and at 6, with the column in which no pivot exceeds zero.
+// The factors of a and the order of its rows. `swaps_or_column` is written at 0, with the swap count, and at 6, with the column in which no pivot exceeds zero.
 #[no_mangle]
 pub extern "C" fn evindrast_lu(
     n: usize,
     a: &[f64],
     factors: &mut [f64],
     order: &mut [usize],
-    beside: &mut usize,
+    swaps_or_column: &mut usize,
 ) -> u32
-    ensures { λ r. ⌜ (r, (now (beside .exit), (now (factors .exit), now (order .exit)))) ≡ luNumbered (now (beside .entry)) (luLeft dualAlgebra dualLayout n (now (a .entry)) (now (factors .entry)) (now (order .entry))) ⌝ }
+    ensures { λ r. ⌜ (r, (now («swaps_or_column» .exit), (now (factors .exit), now (order .exit)))) ≡ luNumbered (now («swaps_or_column» .entry)) (luLeft dualAlgebra dualLayout n (now (a .entry)) (now (factors .entry)) (now (order .entry))) ⌝ }
 {
     let answer = dual_lu::lu(n, a, factors, order);
-    lu_number(answer, beside)
+    lu_number(answer, swaps_or_column)
 }
 
 // x with a * x = b, from the factors and the order of a.

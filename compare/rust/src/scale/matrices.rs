@@ -81,10 +81,11 @@ fn lu_by_crate<D: Entry, T: Record<f64>>(matrix: &Matrix<T>) -> Answer {
 
 fn lu_by_slices<T: Record<f64>>(matrix: &Matrix<T>, lent_lu: LentLu) -> Answer {
     let (n, a) = (matrix.n, flat(&matrix.entries));
-    let (mut factors, mut order, mut beside) = (vec![f64::NAN; a.len()], vec![usize::MAX; n], 77);
-    let number = lent_lu(n, &a, &mut factors, &mut order, &mut beside);
+    let (mut factors, mut order, mut swaps_or_column) =
+        (vec![f64::NAN; a.len()], vec![usize::MAX; n], 77);
+    let number = lent_lu(n, &a, &mut factors, &mut order, &mut swaps_or_column);
     let order = order.iter().map(|row| *row as u64);
-    let head = [u64::from(number), beside as u64];
+    let head = [u64::from(number), swaps_or_column as u64];
     Ok(head.into_iter().chain(order).chain(words(&factors)).collect())
 }
 

@@ -166,9 +166,9 @@ fn is_left(buffers: &[&[f64]]) -> bool {
 
 fn lu(call: &Call, matrices: &Matrices) -> Outcome {
     let [mut factors, a] = call.square.map(buffer);
-    let (mut order, mut beside) = (vec![99; call.order.len()], 77);
-    let number = (matrices.lu)(call.n, &a, &mut factors, &mut order, &mut beside);
-    let left = is_left(&[&factors]) && order.iter().all(|row| *row == 99) && beside == 77;
+    let (mut order, mut swaps_or_column) = (vec![99; call.order.len()], 77);
+    let number = (matrices.lu)(call.n, &a, &mut factors, &mut order, &mut swaps_or_column);
+    let left = is_left(&[&factors]) && order.iter().all(|row| *row == 99) && swaps_or_column == 77;
     Outcome { number, left, wanted: call.size_or_length(&call.square, &[], true).unwrap_or(0) }
 }
 

@@ -4,7 +4,13 @@ use evindrast::exports;
 
 /// A kind whose matrices the port factors: its functions over lent floats, as `exports` has them.
 pub trait Port: Kind {
-    fn lu(n: usize, a: &[f64], f: &mut [f64], order: &mut [usize], beside: &mut usize) -> u32;
+    fn lu(
+        n: usize,
+        a: &[f64],
+        f: &mut [f64],
+        order: &mut [usize],
+        swaps_or_column: &mut usize,
+    ) -> u32;
     fn solve(n: usize, f: &[f64], order: &[usize], b: &[f64], x: &mut [f64]) -> u32;
     fn determinant(n: usize, f: &[f64], order: &[usize], swaps: usize, det: &mut [f64]) -> u32;
     fn inverse(n: usize, f: &[f64], order: &[usize], out: &mut [f64]) -> u32;

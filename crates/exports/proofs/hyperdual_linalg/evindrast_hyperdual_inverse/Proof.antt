@@ -1,3 +1,4 @@
+-- What the entry left crosses: its number and the result.
 use borrow.Author.Needs.{needs}
 use Rattle.exports.proofs.Crossed.{solve-crossed}
 use Rattle.exports.proofs.hyperdual_linalg.evindrast_hyperdual_inverse.Statement.{statement}

@@ -1,3 +1,4 @@
+-- What the entry left crosses: its number, the swap count or the column, both buffers.
 use borrow.Author.Needs.{needs}
 use Rattle.exports.proofs.Crossed.{lu-crossed}
 use Rattle.exports.proofs.hyperdual_linalg.evindrast_hyperdual_lu.Statement.{statement}

@@ -1,3 +1,4 @@
+-- What the entry answered crosses, by the case of its answer: the parts of a record, or a number alone.
 use denote.Ref.{now}
 use Rattle.dual.specs.Rules.{outcome}
 use Rattle.dual.specs.declared.DualAnswer.the-variants.{Value, Refused}
@@ -7,12 +8,14 @@ use borrow.Author.Needs.{needs}
 use Rattle.exports.proofs.linalg.evindrast_determinant.Statement.{statement}
 use Rattle.exports.proofs.linalg.evindrast_determinant.Tie as tie
 
+-- a record: its parts are written
 returns : tie.Need-returns
 returns c =
     let s = c .before .before .before .before .before .before .args in
     let told = c .before .answer .given in
     crossed outcome (determinantNumbered (now (s .re)) (now (s .eps))) _ (Value (told .0 .0)) _ (c .before .before .before .determinant .ensures) (told .1)
 
+-- refused: nothing is written
 returns-2 : tie.Need-returns-2
 returns-2 c =
     let s = c .before .before .before .before .before .before .args in

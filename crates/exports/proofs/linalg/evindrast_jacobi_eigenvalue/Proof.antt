@@ -1,4 +1,4 @@
--- `exports::linalg::evindrast_jacobi_eigenvalue` meets its contract: what the entry left crosses, by the case of its answer. Assumes nothing.
+-- What the entry left crosses, by the case of its answer: the sweeps are written where it is done.
 use denote.Ref.{now}
 use Rattle.jacobi.specs.Entry.{jacobiAnswered}
 use Rattle.jacobi.specs.Answer.{outcome}
@@ -10,12 +10,14 @@ use borrow.Author.Needs.{needs}
 use Rattle.exports.proofs.linalg.evindrast_jacobi_eigenvalue.Statement.{statement}
 use Rattle.exports.proofs.linalg.evindrast_jacobi_eigenvalue.Tie as tie
 
+-- refused: the sweeps stay as they were
 returns : tie.Need-returns
 returns c =
     let call = c .before .before .before .before .before .before .before .jacobi-eigenvalue in
     let s = c .before .before .before .before .before .before .before .before .before .before .before .before .before .args in
     jacobi-refused (now (s .sweeps)) _ _ (call .last .1 .1 .1 .0) (call .last .1 .1 .1 .1 .0) _ _ (c .before .enum-told .given .1) (c .number .ensures) (call .ensures)
 
+-- done: with the sweeps
 returns-2 : tie.Need-returns-2
 returns-2 c =
     let call = c .before .before .before .before .before .before .before .jacobi-eigenvalue in
