@@ -2,4 +2,5 @@
 pub mod Numbered
 pub mod Arms
 pub mod Fitting
+pub mod Lent
 pub mod Entries

@@ -3,7 +3,7 @@ ghost use mathlib.Core.Path.{_≡_};
 ghost use mathlib.Core.List.{[], _∷_};
 ghost use lib.ListN.{length, getD};
 ghost use Rattle.real.specs.Operations as float;
-ghost use Rattle.calls.specs.Words.{floatsOf, wordsOf};
+ghost use Rattle.calls.specs.Words.{floatsOf, firstFloats, wordsOf};
 
 // The float of word number i, +0.0 where there is none.
 pub fn part(words: &[u64], i: usize) -> f64
@@ -13,6 +13,17 @@ pub fn part(words: &[u64], i: usize) -> f64
         real::float_of_word(words[i])
     } else {
         0.0
+    }
+}
+
+// The floats of the first words, as many as are lent; +0.0 where there is no word.
+pub fn read(words: &[u64], floats: &mut [f64])
+    ensures { λ _. ⌜ now (floats .exit) ≡ firstFloats (now (words .entry)) (length (now (floats .entry))) ⌝ }
+{
+    let mut i = 0;
+    while i < floats.len() {
+        floats[i] = part(words, i);
+        i += 1;
     }
 }
 

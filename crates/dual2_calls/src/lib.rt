@@ -12,12 +12,12 @@ use dual2::Dual2Answer;
 use dual2::Dual2SinCos;
 ghost use mathlib.Core.Path.{_≡_};
 ghost use mathlib.Core.List.{_++_};
-ghost use Prim.Native.Nat.{_+_, _<_};
+ghost use Prim.Native.Nat.{_+_};
 ghost use lib.ListN.{length};
 ghost use Rattle.algebra.specs.Outcome.{mapOutcome};
 ghost use Rattle.dual2.specs.Rules.{dual2Layout, outcome};
 ghost use Rattle.calls.specs.Words.{wordsOf};
-ghost use Rattle.calls.specs.Called.{Sized, lentRecord, unaryOf, binaryOf, byFloatOf, operateOf, answerOf, leaves, calledOf, operatedOf, joinedLeft, summedOf, multipliedOf};
+ghost use Rattle.calls.specs.Called.{Sized, unaryOf, binaryOf, byFloatOf, operateOf, answerOf, leaves, calledOf, operatedOf, joinedLeft, summedOf, multipliedOf};
 ghost use Rattle.dual2_calls.specs.Kind.{dual2Kind, dual2Derivatives};
 
 const WIDTH: usize = 3;
@@ -85,19 +85,6 @@ fn operate(op: Operation, x: Dual2, y: Dual2, z: Dual2) -> Dual2Answer
     }
 }
 
-// Record number p; a word that is not there reads as zero.
-fn record_at(words: &[u64], p: usize) -> Dual2
-    requires { ⌜ p < 3 ⌝ }
-    ensures { λ r. ⌜ r ≡ lentRecord dual2Kind (now (words .entry)) p ⌝ }
-{
-    let at = p * WIDTH;
-    Dual2::new(
-        words::part(words, at),
-        words::part(words, at + 1),
-        words::part(words, at + 2),
-    )
-}
-
 // A record's words to out, or its refusal.
 fn leave(answer: Dual2Answer, out: &mut [u64]) -> u32
     requires { ⌜ length (now out) ≡ dual2Layout .width ⌝ }
@@ -105,7 +92,8 @@ fn leave(answer: Dual2Answer, out: &mut [u64]) -> u32
 {
     match answer {
         Dual2Answer::Value(x) => {
-            let parts = [x.re, x.v1, x.v2];
+            let mut parts = [0.0; WIDTH];
+            dual2::write(&mut parts, 0, x);
             words::put(&parts, out);
             0
         }
@@ -120,7 +108,9 @@ fn leave_both(answer: Dual2SinCos, out: &mut [u64])
 {
     let s = answer.sin;
     let c = answer.cos;
-    let parts = [s.re, s.v1, s.v2, c.re, c.v1, c.v2];
+    let mut parts = [0.0; 2 * WIDTH];
+    dual2::write(&mut parts, 0, s);
+    dual2::write(&mut parts, 1, c);
     words::put(&parts, out);
 }
 
@@ -148,9 +138,11 @@ pub fn call(function: u32, exponent: i32, records: &[u64], floats: &[u64], out: 
     ensures { λ r. ⌜ (r, now (out .exit)) ≡ calledOf dual2Kind function exponent (now (records .entry)) (now (floats .entry)) (now (out .entry)) ⌝ }
 {
     let call = table::call_of(WIDTH, function, exponent, records.len(), floats, out.len());
-    let x = record_at(records, 0);
-    let y = record_at(records, 1);
-    let z = record_at(records, 2);
+    let mut lent = [0.0; 3 * WIDTH];
+    words::read(records, &mut lent);
+    let x = dual2::read(&lent, 0);
+    let y = dual2::read(&lent, 1);
+    let z = dual2::read(&lent, 2);
     run(call, x, y, z, out)
 }
 
@@ -164,8 +156,10 @@ pub fn operator(op: Binary, records: &[u64], out: &mut [u64]) -> u32
     if out.len() != WIDTH {
         return refusals::WRONG_LENGTH;
     }
-    let x = record_at(records, 0);
-    let y = record_at(records, 1);
+    let mut lent = [0.0; 2 * WIDTH];
+    words::read(records, &mut lent);
+    let x = dual2::read(&lent, 0);
+    let y = dual2::read(&lent, 1);
     leave(Dual2Answer::Value(binary(op, x, y)), out)
 }
 
@@ -178,8 +172,7 @@ fn leave_floats(answer: Dual2Answer, out: &mut [f64]) -> u32
     }
     match answer {
         Dual2Answer::Value(x) => {
-            let parts = [x.re, x.v1, x.v2];
-            floats::copy(&parts, out);
+            dual2::write(out, 0, x);
             0
         }
         Dual2Answer::Refused(number) => number,

@@ -12,12 +12,12 @@ use dual3::Dual3Answer;
 use dual3::Dual3SinCos;
 ghost use mathlib.Core.Path.{_≡_};
 ghost use mathlib.Core.List.{_++_};
-ghost use Prim.Native.Nat.{_+_, _<_};
+ghost use Prim.Native.Nat.{_+_};
 ghost use lib.ListN.{length};
 ghost use Rattle.algebra.specs.Outcome.{mapOutcome};
 ghost use Rattle.dual3.specs.Rules.{dual3Layout, outcome};
 ghost use Rattle.calls.specs.Words.{wordsOf};
-ghost use Rattle.calls.specs.Called.{Sized, lentRecord, unaryOf, binaryOf, byFloatOf, operateOf, answerOf, leaves, calledOf, operatedOf, joinedLeft, summedOf, multipliedOf};
+ghost use Rattle.calls.specs.Called.{Sized, unaryOf, binaryOf, byFloatOf, operateOf, answerOf, leaves, calledOf, operatedOf, joinedLeft, summedOf, multipliedOf};
 ghost use Rattle.dual3_calls.specs.Kind.{dual3Kind, dual3Derivatives};
 
 const WIDTH: usize = 4;
@@ -85,20 +85,6 @@ fn operate(op: Operation, x: Dual3, y: Dual3, z: Dual3) -> Dual3Answer
     }
 }
 
-// Record number p; a word that is not there reads as zero.
-fn record_at(words: &[u64], p: usize) -> Dual3
-    requires { ⌜ p < 3 ⌝ }
-    ensures { λ r. ⌜ r ≡ lentRecord dual3Kind (now (words .entry)) p ⌝ }
-{
-    let at = p * WIDTH;
-    Dual3::new(
-        words::part(words, at),
-        words::part(words, at + 1),
-        words::part(words, at + 2),
-        words::part(words, at + 3),
-    )
-}
-
 // A record's words to out, or its refusal.
 fn leave(answer: Dual3Answer, out: &mut [u64]) -> u32
     requires { ⌜ length (now out) ≡ dual3Layout .width ⌝ }
@@ -106,7 +92,8 @@ fn leave(answer: Dual3Answer, out: &mut [u64]) -> u32
 {
     match answer {
         Dual3Answer::Value(x) => {
-            let parts = [x.re, x.v1, x.v2, x.v3];
+            let mut parts = [0.0; WIDTH];
+            dual3::write(&mut parts, 0, x);
             words::put(&parts, out);
             0
         }
@@ -121,7 +108,9 @@ fn leave_both(answer: Dual3SinCos, out: &mut [u64])
 {
     let s = answer.sin;
     let c = answer.cos;
-    let parts = [s.re, s.v1, s.v2, s.v3, c.re, c.v1, c.v2, c.v3];
+    let mut parts = [0.0; 2 * WIDTH];
+    dual3::write(&mut parts, 0, s);
+    dual3::write(&mut parts, 1, c);
     words::put(&parts, out);
 }
 
@@ -149,9 +138,11 @@ pub fn call(function: u32, exponent: i32, records: &[u64], floats: &[u64], out: 
     ensures { λ r. ⌜ (r, now (out .exit)) ≡ calledOf dual3Kind function exponent (now (records .entry)) (now (floats .entry)) (now (out .entry)) ⌝ }
 {
     let call = table::call_of(WIDTH, function, exponent, records.len(), floats, out.len());
-    let x = record_at(records, 0);
-    let y = record_at(records, 1);
-    let z = record_at(records, 2);
+    let mut lent = [0.0; 3 * WIDTH];
+    words::read(records, &mut lent);
+    let x = dual3::read(&lent, 0);
+    let y = dual3::read(&lent, 1);
+    let z = dual3::read(&lent, 2);
     run(call, x, y, z, out)
 }
 
@@ -165,8 +156,10 @@ pub fn operator(op: Binary, records: &[u64], out: &mut [u64]) -> u32
     if out.len() != WIDTH {
         return refusals::WRONG_LENGTH;
     }
-    let x = record_at(records, 0);
-    let y = record_at(records, 1);
+    let mut lent = [0.0; 2 * WIDTH];
+    words::read(records, &mut lent);
+    let x = dual3::read(&lent, 0);
+    let y = dual3::read(&lent, 1);
     leave(Dual3Answer::Value(binary(op, x, y)), out)
 }
 
@@ -179,8 +172,7 @@ fn leave_floats(answer: Dual3Answer, out: &mut [f64]) -> u32
     }
     match answer {
         Dual3Answer::Value(x) => {
-            let parts = [x.re, x.v1, x.v2, x.v3];
-            floats::copy(&parts, out);
+            dual3::write(out, 0, x);
             0
         }
         Dual3Answer::Refused(number) => number,

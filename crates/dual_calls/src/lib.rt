@@ -12,12 +12,12 @@ use dual::DualAnswer;
 use dual::DualSinCos;
 ghost use mathlib.Core.Path.{_≡_};
 ghost use mathlib.Core.List.{_++_};
-ghost use Prim.Native.Nat.{_+_, _<_};
+ghost use Prim.Native.Nat.{_+_};
 ghost use lib.ListN.{length};
 ghost use Rattle.algebra.specs.Outcome.{mapOutcome};
 ghost use Rattle.dual.specs.Rules.{dualLayout, outcome};
 ghost use Rattle.calls.specs.Words.{wordsOf};
-ghost use Rattle.calls.specs.Called.{Sized, lentRecord, unaryOf, binaryOf, byFloatOf, operateOf, answerOf, leaves, calledOf, operatedOf, joinedLeft, summedOf, multipliedOf};
+ghost use Rattle.calls.specs.Called.{Sized, unaryOf, binaryOf, byFloatOf, operateOf, answerOf, leaves, calledOf, operatedOf, joinedLeft, summedOf, multipliedOf};
 ghost use Rattle.dual_calls.specs.Kind.{dualKind, dualDerivatives};
 
 const WIDTH: usize = 2;
@@ -85,15 +85,6 @@ fn operate(op: Operation, x: Dual, y: Dual, z: Dual) -> DualAnswer
     }
 }
 
-// Record number p; a word that is not there reads as zero.
-fn record_at(words: &[u64], p: usize) -> Dual
-    requires { ⌜ p < 3 ⌝ }
-    ensures { λ r. ⌜ r ≡ lentRecord dualKind (now (words .entry)) p ⌝ }
-{
-    let at = p * WIDTH;
-    Dual::new(words::part(words, at), words::part(words, at + 1))
-}
-
 // A record's words to out, or its refusal.
 fn leave(answer: DualAnswer, out: &mut [u64]) -> u32
     requires { ⌜ length (now out) ≡ dualLayout .width ⌝ }
@@ -101,7 +92,8 @@ fn leave(answer: DualAnswer, out: &mut [u64]) -> u32
 {
     match answer {
         DualAnswer::Value(x) => {
-            let parts = [x.re, x.eps];
+            let mut parts = [0.0; WIDTH];
+            dual::write(&mut parts, 0, x);
             words::put(&parts, out);
             0
         }
@@ -116,7 +108,9 @@ fn leave_both(answer: DualSinCos, out: &mut [u64])
 {
     let s = answer.sin;
     let c = answer.cos;
-    let parts = [s.re, s.eps, c.re, c.eps];
+    let mut parts = [0.0; 2 * WIDTH];
+    dual::write(&mut parts, 0, s);
+    dual::write(&mut parts, 1, c);
     words::put(&parts, out);
 }
 
@@ -144,9 +138,11 @@ pub fn call(function: u32, exponent: i32, records: &[u64], floats: &[u64], out: 
     ensures { λ r. ⌜ (r, now (out .exit)) ≡ calledOf dualKind function exponent (now (records .entry)) (now (floats .entry)) (now (out .entry)) ⌝ }
 {
     let call = table::call_of(WIDTH, function, exponent, records.len(), floats, out.len());
-    let x = record_at(records, 0);
-    let y = record_at(records, 1);
-    let z = record_at(records, 2);
+    let mut lent = [0.0; 3 * WIDTH];
+    words::read(records, &mut lent);
+    let x = dual::read(&lent, 0);
+    let y = dual::read(&lent, 1);
+    let z = dual::read(&lent, 2);
     run(call, x, y, z, out)
 }
 
@@ -160,8 +156,10 @@ pub fn operator(op: Binary, records: &[u64], out: &mut [u64]) -> u32
     if out.len() != WIDTH {
         return refusals::WRONG_LENGTH;
     }
-    let x = record_at(records, 0);
-    let y = record_at(records, 1);
+    let mut lent = [0.0; 2 * WIDTH];
+    words::read(records, &mut lent);
+    let x = dual::read(&lent, 0);
+    let y = dual::read(&lent, 1);
     leave(DualAnswer::Value(binary(op, x, y)), out)
 }
 
@@ -174,8 +172,7 @@ fn leave_floats(answer: DualAnswer, out: &mut [f64]) -> u32
     }
     match answer {
         DualAnswer::Value(x) => {
-            let parts = [x.re, x.eps];
-            floats::copy(&parts, out);
+            dual::write(out, 0, x);
             0
         }
         DualAnswer::Refused(number) => number,

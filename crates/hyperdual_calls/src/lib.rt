@@ -12,12 +12,12 @@ use hyperdual::HyperDualAnswer;
 use hyperdual::HyperDualSinCos;
 ghost use mathlib.Core.Path.{_≡_};
 ghost use mathlib.Core.List.{_++_};
-ghost use Prim.Native.Nat.{_+_, _<_};
+ghost use Prim.Native.Nat.{_+_};
 ghost use lib.ListN.{length};
 ghost use Rattle.algebra.specs.Outcome.{mapOutcome};
 ghost use Rattle.hyperdual.specs.Rules.{hyperDualLayout, outcome};
 ghost use Rattle.calls.specs.Words.{wordsOf};
-ghost use Rattle.calls.specs.Called.{Sized, lentRecord, unaryOf, binaryOf, byFloatOf, operateOf, answerOf, leaves, calledOf, operatedOf, joinedLeft, summedOf, multipliedOf};
+ghost use Rattle.calls.specs.Called.{Sized, unaryOf, binaryOf, byFloatOf, operateOf, answerOf, leaves, calledOf, operatedOf, joinedLeft, summedOf, multipliedOf};
 ghost use Rattle.hyperdual_calls.specs.Kind.{hyperDualKind, hyperDualDerivatives};
 
 const WIDTH: usize = 4;
@@ -86,20 +86,6 @@ fn operate(op: Operation, x: HyperDual, y: HyperDual, z: HyperDual) -> HyperDual
     }
 }
 
-// Record number p; a word that is not there reads as zero.
-fn record_at(words: &[u64], p: usize) -> HyperDual
-    requires { ⌜ p < 3 ⌝ }
-    ensures { λ r. ⌜ r ≡ lentRecord hyperDualKind (now (words .entry)) p ⌝ }
-{
-    let at = p * WIDTH;
-    HyperDual::new(
-        words::part(words, at),
-        words::part(words, at + 1),
-        words::part(words, at + 2),
-        words::part(words, at + 3),
-    )
-}
-
 // A record's words to out, or its refusal.
 fn leave(answer: HyperDualAnswer, out: &mut [u64]) -> u32
     requires { ⌜ length (now out) ≡ hyperDualLayout .width ⌝ }
@@ -107,7 +93,8 @@ fn leave(answer: HyperDualAnswer, out: &mut [u64]) -> u32
 {
     match answer {
         HyperDualAnswer::Value(x) => {
-            let parts = [x.re, x.eps1, x.eps2, x.eps1eps2];
+            let mut parts = [0.0; WIDTH];
+            hyperdual::write(&mut parts, 0, x);
             words::put(&parts, out);
             0
         }
@@ -122,16 +109,9 @@ fn leave_both(answer: HyperDualSinCos, out: &mut [u64])
 {
     let s = answer.sin;
     let c = answer.cos;
-    let parts = [
-        s.re,
-        s.eps1,
-        s.eps2,
-        s.eps1eps2,
-        c.re,
-        c.eps1,
-        c.eps2,
-        c.eps1eps2,
-    ];
+    let mut parts = [0.0; 2 * WIDTH];
+    hyperdual::write(&mut parts, 0, s);
+    hyperdual::write(&mut parts, 1, c);
     words::put(&parts, out);
 }
 
@@ -159,9 +139,11 @@ pub fn call(function: u32, exponent: i32, records: &[u64], floats: &[u64], out: 
     ensures { λ r. ⌜ (r, now (out .exit)) ≡ calledOf hyperDualKind function exponent (now (records .entry)) (now (floats .entry)) (now (out .entry)) ⌝ }
 {
     let call = table::call_of(WIDTH, function, exponent, records.len(), floats, out.len());
-    let x = record_at(records, 0);
-    let y = record_at(records, 1);
-    let z = record_at(records, 2);
+    let mut lent = [0.0; 3 * WIDTH];
+    words::read(records, &mut lent);
+    let x = hyperdual::read(&lent, 0);
+    let y = hyperdual::read(&lent, 1);
+    let z = hyperdual::read(&lent, 2);
     run(call, x, y, z, out)
 }
 
@@ -175,8 +157,10 @@ pub fn operator(op: Binary, records: &[u64], out: &mut [u64]) -> u32
     if out.len() != WIDTH {
         return refusals::WRONG_LENGTH;
     }
-    let x = record_at(records, 0);
-    let y = record_at(records, 1);
+    let mut lent = [0.0; 2 * WIDTH];
+    words::read(records, &mut lent);
+    let x = hyperdual::read(&lent, 0);
+    let y = hyperdual::read(&lent, 1);
     leave(HyperDualAnswer::Value(binary(op, x, y)), out)
 }
 
@@ -189,8 +173,7 @@ fn leave_floats(answer: HyperDualAnswer, out: &mut [f64]) -> u32
     }
     match answer {
         HyperDualAnswer::Value(x) => {
-            let parts = [x.re, x.eps1, x.eps2, x.eps1eps2];
-            floats::copy(&parts, out);
+            hyperdual::write(out, 0, x);
             0
         }
         HyperDualAnswer::Refused(number) => number,

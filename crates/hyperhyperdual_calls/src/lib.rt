@@ -12,12 +12,12 @@ use hyperhyperdual::HyperHyperDualAnswer;
 use hyperhyperdual::HyperHyperDualSinCos;
 ghost use mathlib.Core.Path.{_≡_};
 ghost use mathlib.Core.List.{_++_};
-ghost use Prim.Native.Nat.{_+_, _<_};
+ghost use Prim.Native.Nat.{_+_};
 ghost use lib.ListN.{length};
 ghost use Rattle.algebra.specs.Outcome.{mapOutcome};
 ghost use Rattle.hyperhyperdual.specs.Rules.{hyperHyperDualLayout, outcome};
 ghost use Rattle.calls.specs.Words.{wordsOf};
-ghost use Rattle.calls.specs.Called.{Sized, lentRecord, unaryOf, binaryOf, byFloatOf, operateOf, answerOf, leaves, calledOf, operatedOf, joinedLeft, summedOf, multipliedOf};
+ghost use Rattle.calls.specs.Called.{Sized, unaryOf, binaryOf, byFloatOf, operateOf, answerOf, leaves, calledOf, operatedOf, joinedLeft, summedOf, multipliedOf};
 ghost use Rattle.hyperhyperdual_calls.specs.Kind.{hyperHyperDualKind, hyperHyperDualDerivatives};
 
 const WIDTH: usize = 8;
@@ -92,24 +92,6 @@ fn operate(
     }
 }
 
-// Record number p; a word that is not there reads as zero.
-fn record_at(words: &[u64], p: usize) -> HyperHyperDual
-    requires { ⌜ p < 3 ⌝ }
-    ensures { λ r. ⌜ r ≡ lentRecord hyperHyperDualKind (now (words .entry)) p ⌝ }
-{
-    let at = p * WIDTH;
-    HyperHyperDual::new(
-        words::part(words, at),
-        words::part(words, at + 1),
-        words::part(words, at + 2),
-        words::part(words, at + 3),
-        words::part(words, at + 4),
-        words::part(words, at + 5),
-        words::part(words, at + 6),
-        words::part(words, at + 7),
-    )
-}
-
 // A record's words to out, or its refusal.
 fn leave(answer: HyperHyperDualAnswer, out: &mut [u64]) -> u32
     requires { ⌜ length (now out) ≡ hyperHyperDualLayout .width ⌝ }
@@ -117,16 +99,8 @@ fn leave(answer: HyperHyperDualAnswer, out: &mut [u64]) -> u32
 {
     match answer {
         HyperHyperDualAnswer::Value(x) => {
-            let parts = [
-                x.re,
-                x.eps1,
-                x.eps2,
-                x.eps3,
-                x.eps1eps2,
-                x.eps1eps3,
-                x.eps2eps3,
-                x.eps1eps2eps3,
-            ];
+            let mut parts = [0.0; WIDTH];
+            hyperhyperdual::write(&mut parts, 0, x);
             words::put(&parts, out);
             0
         }
@@ -141,24 +115,9 @@ fn leave_both(answer: HyperHyperDualSinCos, out: &mut [u64])
 {
     let s = answer.sin;
     let c = answer.cos;
-    let parts = [
-        s.re,
-        s.eps1,
-        s.eps2,
-        s.eps3,
-        s.eps1eps2,
-        s.eps1eps3,
-        s.eps2eps3,
-        s.eps1eps2eps3,
-        c.re,
-        c.eps1,
-        c.eps2,
-        c.eps3,
-        c.eps1eps2,
-        c.eps1eps3,
-        c.eps2eps3,
-        c.eps1eps2eps3,
-    ];
+    let mut parts = [0.0; 2 * WIDTH];
+    hyperhyperdual::write(&mut parts, 0, s);
+    hyperhyperdual::write(&mut parts, 1, c);
     words::put(&parts, out);
 }
 
@@ -186,9 +145,11 @@ pub fn call(function: u32, exponent: i32, records: &[u64], floats: &[u64], out: 
     ensures { λ r. ⌜ (r, now (out .exit)) ≡ calledOf hyperHyperDualKind function exponent (now (records .entry)) (now (floats .entry)) (now (out .entry)) ⌝ }
 {
     let call = table::call_of(WIDTH, function, exponent, records.len(), floats, out.len());
-    let x = record_at(records, 0);
-    let y = record_at(records, 1);
-    let z = record_at(records, 2);
+    let mut lent = [0.0; 3 * WIDTH];
+    words::read(records, &mut lent);
+    let x = hyperhyperdual::read(&lent, 0);
+    let y = hyperhyperdual::read(&lent, 1);
+    let z = hyperhyperdual::read(&lent, 2);
     run(call, x, y, z, out)
 }
 
@@ -202,8 +163,10 @@ pub fn operator(op: Binary, records: &[u64], out: &mut [u64]) -> u32
     if out.len() != WIDTH {
         return refusals::WRONG_LENGTH;
     }
-    let x = record_at(records, 0);
-    let y = record_at(records, 1);
+    let mut lent = [0.0; 2 * WIDTH];
+    words::read(records, &mut lent);
+    let x = hyperhyperdual::read(&lent, 0);
+    let y = hyperhyperdual::read(&lent, 1);
     leave(HyperHyperDualAnswer::Value(binary(op, x, y)), out)
 }
 
@@ -216,17 +179,7 @@ fn leave_floats(answer: HyperHyperDualAnswer, out: &mut [f64]) -> u32
     }
     match answer {
         HyperHyperDualAnswer::Value(x) => {
-            let parts = [
-                x.re,
-                x.eps1,
-                x.eps2,
-                x.eps3,
-                x.eps1eps2,
-                x.eps1eps3,
-                x.eps2eps3,
-                x.eps1eps2eps3,
-            ];
-            floats::copy(&parts, out);
+            hyperhyperdual::write(out, 0, x);
             0
         }
         HyperHyperDualAnswer::Refused(number) => number,

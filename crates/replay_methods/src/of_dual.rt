@@ -41,7 +41,9 @@ fn same_method(function: u64, x: Dual, y: Dual, a: f64, wanted: &[u64]) -> bool
 pub fn same(function: u64, records: &[u64], floats: &[u64], wanted: &[u64]) -> bool
     ensures { λ r. ⌜ r ≡ sameMethod dualAlgebra dualLayout function (recordAt dualLayout (floatsOf (now (records .entry))) 0) (recordAt dualLayout (floatsOf (now (records .entry))) 1) (floatAt (now (floats .entry)) 0) (now (wanted .entry)) ⌝ }
 {
-    let x = Dual::new(words::part(records, 0), words::part(records, 1));
-    let y = Dual::new(words::part(records, 2), words::part(records, 3));
+    let mut lent = [0.0; 4];
+    words::read(records, &mut lent);
+    let x = dual::read(&lent, 0);
+    let y = dual::read(&lent, 1);
     same_method(function, x, y, words::part(floats, 0), wanted)
 }

@@ -41,15 +41,9 @@ fn same_method(function: u64, x: Dual2, y: Dual2, a: f64, wanted: &[u64]) -> boo
 pub fn same(function: u64, records: &[u64], floats: &[u64], wanted: &[u64]) -> bool
     ensures { λ r. ⌜ r ≡ sameMethod dual2Algebra dual2Layout function (recordAt dual2Layout (floatsOf (now (records .entry))) 0) (recordAt dual2Layout (floatsOf (now (records .entry))) 1) (floatAt (now (floats .entry)) 0) (now (wanted .entry)) ⌝ }
 {
-    let x = Dual2::new(
-        words::part(records, 0),
-        words::part(records, 1),
-        words::part(records, 2),
-    );
-    let y = Dual2::new(
-        words::part(records, 3),
-        words::part(records, 4),
-        words::part(records, 5),
-    );
+    let mut lent = [0.0; 6];
+    words::read(records, &mut lent);
+    let x = dual2::read(&lent, 0);
+    let y = dual2::read(&lent, 1);
     same_method(function, x, y, words::part(floats, 0), wanted)
 }

@@ -41,17 +41,9 @@ fn same_method(function: u64, x: Dual3, y: Dual3, a: f64, wanted: &[u64]) -> boo
 pub fn same(function: u64, records: &[u64], floats: &[u64], wanted: &[u64]) -> bool
     ensures { λ r. ⌜ r ≡ sameMethod dual3Algebra dual3Layout function (recordAt dual3Layout (floatsOf (now (records .entry))) 0) (recordAt dual3Layout (floatsOf (now (records .entry))) 1) (floatAt (now (floats .entry)) 0) (now (wanted .entry)) ⌝ }
 {
-    let x = Dual3::new(
-        words::part(records, 0),
-        words::part(records, 1),
-        words::part(records, 2),
-        words::part(records, 3),
-    );
-    let y = Dual3::new(
-        words::part(records, 4),
-        words::part(records, 5),
-        words::part(records, 6),
-        words::part(records, 7),
-    );
+    let mut lent = [0.0; 8];
+    words::read(records, &mut lent);
+    let x = dual3::read(&lent, 0);
+    let y = dual3::read(&lent, 1);
     same_method(function, x, y, words::part(floats, 0), wanted)
 }

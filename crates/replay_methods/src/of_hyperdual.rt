@@ -41,17 +41,9 @@ fn same_method(function: u64, x: HyperDual, y: HyperDual, a: f64, wanted: &[u64]
 pub fn same(function: u64, records: &[u64], floats: &[u64], wanted: &[u64]) -> bool
     ensures { λ r. ⌜ r ≡ sameMethod hyperDualAlgebra hyperDualLayout function (recordAt hyperDualLayout (floatsOf (now (records .entry))) 0) (recordAt hyperDualLayout (floatsOf (now (records .entry))) 1) (floatAt (now (floats .entry)) 0) (now (wanted .entry)) ⌝ }
 {
-    let x = HyperDual::new(
-        words::part(records, 0),
-        words::part(records, 1),
-        words::part(records, 2),
-        words::part(records, 3),
-    );
-    let y = HyperDual::new(
-        words::part(records, 4),
-        words::part(records, 5),
-        words::part(records, 6),
-        words::part(records, 7),
-    );
+    let mut lent = [0.0; 8];
+    words::read(records, &mut lent);
+    let x = hyperdual::read(&lent, 0);
+    let y = hyperdual::read(&lent, 1);
     same_method(function, x, y, words::part(floats, 0), wanted)
 }

@@ -53,25 +53,9 @@ fn same_method(function: u64, x: HyperHyperDual, y: HyperHyperDual, a: f64, want
 pub fn same(function: u64, records: &[u64], floats: &[u64], wanted: &[u64]) -> bool
     ensures { λ r. ⌜ r ≡ sameMethod hyperHyperDualAlgebra hyperHyperDualLayout function (recordAt hyperHyperDualLayout (floatsOf (now (records .entry))) 0) (recordAt hyperHyperDualLayout (floatsOf (now (records .entry))) 1) (floatAt (now (floats .entry)) 0) (now (wanted .entry)) ⌝ }
 {
-    let x = HyperHyperDual::new(
-        words::part(records, 0),
-        words::part(records, 1),
-        words::part(records, 2),
-        words::part(records, 3),
-        words::part(records, 4),
-        words::part(records, 5),
-        words::part(records, 6),
-        words::part(records, 7),
-    );
-    let y = HyperHyperDual::new(
-        words::part(records, 8),
-        words::part(records, 9),
-        words::part(records, 10),
-        words::part(records, 11),
-        words::part(records, 12),
-        words::part(records, 13),
-        words::part(records, 14),
-        words::part(records, 15),
-    );
+    let mut lent = [0.0; 16];
+    words::read(records, &mut lent);
+    let x = hyperhyperdual::read(&lent, 0);
+    let y = hyperhyperdual::read(&lent, 1);
     same_method(function, x, y, words::part(floats, 0), wanted)
 }

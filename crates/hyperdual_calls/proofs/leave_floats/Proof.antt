@@ -1,6 +1,7 @@
 -- A value leaves its parts, a refusal its number, where out is one record: laws over any kind of record (Entries).
 use borrow.Author.Needs.{needs}
 use mathlib.Core.Path.{refl}
+use Rattle.hyperdual.proofs.Flat.{hyper-dual-laws}
 use Rattle.hyperdual.specs.Rules.{outcome}
 use Rattle.hyperdual.specs.declared.HyperDualAnswer.the-variants.{Value, Refused}
 use Rattle.hyperdual_calls.specs.Kind.{hyperDualKind}
@@ -12,7 +13,7 @@ pub leave-floats-spec : {M : Type 1} → statement M
 leave-floats-spec =
     tie.close
     (tie.spec
-    (λ c. search (needs, join-length hyperDualKind outcome))
-    (λ c. search needs) (λ c. search needs) (λ c κs. search needs) (λ c. search needs) (λ c. search needs)
-    (λ c. search (needs, join-value hyperDualKind outcome Value (λ x. refl)))
-    (λ c. search (needs, join-refused hyperDualKind outcome Refused (λ n. refl))))
+    (λ c. search (needs, join-length hyperDualKind hyper-dual-laws outcome))
+    (λ c. search needs) (λ c κs. search needs) (λ c. search needs) (λ c. search needs)
+    (λ c. search (needs, join-value hyperDualKind hyper-dual-laws outcome Value (λ x. refl)))
+    (λ c. search (needs, join-refused hyperDualKind hyper-dual-laws outcome Refused (λ n. refl))))
