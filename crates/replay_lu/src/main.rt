@@ -2,6 +2,7 @@
 // (lu-hyperdual.txt and so on).
 mod entries;
 mod over;
+mod rooms;
 
 use replay::Place;
 use replay::tally;
@@ -32,7 +33,7 @@ fn fields(entry: u8) -> usize
     }
 }
 
-// One case of size n, in buffers full of what must not stay; first and second are the numbers after the size.
+// One case of size n; first and second are the numbers after the size.
 fn case_of(
     entry: u8,
     width: usize,
@@ -45,91 +46,17 @@ fn case_of(
 ) -> Compared
     requires { ⌜ (n ≤ 32) × (width ≤ 4) ⌝ }
 {
-    let full = replay_matrices::floats_in(n, width);
-    let wide = n * width;
-    let mut words = [7u64; 4096];
-    let mut numbers = [7u64; 32];
-    let mut matrix = [7.0f64; 4096];
-    let mut order = [7usize; 32];
-    let mut out = [7.0f64; 4096];
-    let mut column = [7u64; 128];
-    let mut b = [7.0f64; 128];
-    let mut x = [7.0f64; 128];
-    let words = &mut words[..full];
-    let numbers = &mut numbers[..n];
-    let matrix = &mut matrix[..full];
-    let order = &mut order[..n];
     match entry {
         LU => {
             let wanted = Numbers {
                 number: first,
-                beside: second,
+                swaps_or_column: second,
             };
-            let out = &mut out[..full];
-            entries::lu(
-                width,
-                file,
-                buffer,
-                place,
-                n,
-                wanted,
-                words,
-                numbers,
-                matrix,
-                order,
-                out,
-            )
+            rooms::lu(width, file, buffer, place, n, wanted)
         }
-        SOLVE => {
-            let column = &mut column[..wide];
-            let b = &mut b[..wide];
-            let x = &mut x[..wide];
-            entries::solve(
-                width,
-                file,
-                buffer,
-                place,
-                n,
-                words,
-                numbers,
-                matrix,
-                order,
-                column,
-                b,
-                x,
-            )
-        }
-        DETERMINANT => {
-            let record = &mut column[..width];
-            entries::determinant(
-                width,
-                file,
-                buffer,
-                place,
-                n,
-                first,
-                words,
-                numbers,
-                matrix,
-                order,
-                record,
-            )
-        }
-        _ => {
-            let out = &mut out[..full];
-            entries::inverse(
-                width,
-                file,
-                buffer,
-                place,
-                n,
-                words,
-                numbers,
-                matrix,
-                order,
-                out,
-            )
-        }
+        SOLVE => rooms::solve(width, file, buffer, place, n),
+        DETERMINANT => rooms::determinant(width, file, buffer, place, n, first),
+        _ => rooms::inverse(width, file, buffer, place, n),
     }
 }
 

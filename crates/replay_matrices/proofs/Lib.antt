@@ -1,2 +1,3 @@
 -- Laws that the proofs cite.
-mod Zeros
+pub mod Filling
+pub mod Zeros

@@ -28,13 +28,13 @@ zeroFloats l = sameFloats (replicate (length l) 0) l
 
 -- LU's answer: document 01's number, and the swap count or the column beside it
 abbrev pub luNumbers : LuAnswer → Numbers
-luNumbers (lu.Done swaps) = record { number = 0; beside = swaps }
-luNumbers (lu.Refused number column) = record { number = number; beside = column }
+luNumbers (lu.Done swaps) = record { number = 0; «swaps_or_column» = swaps }
+luNumbers (lu.Refused number column) = record { number = number; «swaps_or_column» = column }
 
 -- the numbers are the recorded ones, and the buffers too, or all zero where a refusal is recorded
 unfoldable pub sameLu : Numbers → List ℕ → List ℕ → Numbers → List ℕ → List Float → Bool
 sameLu wanted numbers words got order factors =
-    eqb (wanted .number) (got .number) && (eqb (wanted .beside) (got .beside) &&
+    eqb (wanted .number) (got .number) && (eqb (wanted .«swaps_or_column») (got .«swaps_or_column») &&
     cond (eqb (wanted .number) 0)
     (sameNumbers numbers order && sameFloats words factors)
     (zeroNumbers order && zeroFloats factors))

@@ -13,10 +13,10 @@ ghost use Rattle.replay_matrices.specs.Cases.{sameFloats, zeroNumbers, z
 use matrices::LuAnswer;
 use matrices::SolveAnswer;
 
-// Document 01's number, and the count or the column beside it.
+// Document 01's number, and the swap count or the column that stands beside it.
 pub struct Numbers {
     pub number: u64,
-    pub beside: u64,
+    pub swaps_or_column: u64,
 }
 
 // How many floats a matrix of n by n records has.
@@ -25,6 +25,14 @@ pub fn floats_in(n: usize, width: usize) -> usize
     ensures { λ r. ⌜ (r ≡ n * n * width) × (r ≤ 4096) ⌝ }
 {
     n * n * width
+}
+
+// How many floats a row of n records has.
+pub fn floats_in_row(n: usize, width: usize) -> usize
+    requires { ⌜ (n ≤ 32) × (width ≤ 4) ⌝ }
+    ensures { λ r. ⌜ (r ≡ n * width) × (r ≤ 128) ⌝ }
+{
+    n * width
 }
 
 // Word number i, 0 where there is none.
@@ -128,11 +136,11 @@ pub fn lu_numbers(answer: LuAnswer) -> Numbers
     match answer {
         LuAnswer::Done { swaps } => Numbers {
             number: 0,
-            beside: swaps as u64,
+            swaps_or_column: swaps as u64,
         },
         LuAnswer::Refused { number, column } => Numbers {
             number: number as u64,
-            beside: column as u64,
+            swaps_or_column: column as u64,
         },
     }
 }
@@ -152,7 +160,7 @@ pub fn same_lu(
     if wanted.number != got.number {
         return false;
     }
-    if wanted.beside != got.beside {
+    if wanted.swaps_or_column != got.swaps_or_column {
         return false;
     }
     if wanted.number != 0 {

@@ -167,7 +167,7 @@ fn eigenvalues(c: &[u64; 16], a: &mut [f64], values: &mut [f64], vectors: &mut [
 fn record(c: &[u64; 16], records: &mut [u64], floats: &mut [u64], out: &mut [u64]) -> Outcome {
     let kind = lent::number(c[1]);
     let function = lent::number(c[12]);
-    let exponent = lent::exponent(c[11]);
+    let exponent = replay_table::exponent(c[11]);
     filling::words(c[2], 1, records);
     filling::words(c[2], 2, floats);
     let number = exports::record::evindrast_record(kind, function, exponent, records, floats, out);

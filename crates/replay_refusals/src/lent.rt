@@ -19,15 +19,3 @@ pub(crate) fn few(length: u64) -> usize
 pub(crate) fn number(x: u64) -> u32 {
     (x % 0x1_0000_0000) as u32
 }
-
-// powi's exponent, from its 64-bit two's complement; 0 for a word that is none.
-pub(crate) fn exponent(w: u64) -> i32 {
-    if w <= 0x7fff_ffff {
-        return w as i32;
-    }
-    let below = u64::MAX - w;
-    if below <= 0x7fff_ffff {
-        return !(below as i32);
-    }
-    0
-}

@@ -1,4 +1,4 @@
--- By the byte. Assumes nothing.
+-- By the byte.
 use Prim.Native.Nat.{ℕ}
 use mathlib.Core.Bool.{true, false, not}
 use mathlib.Core.Logic.{_⊎_, inl, inr}

@@ -1,4 +1,4 @@
--- Each answer by the tests that led to it. Assumes nothing.
+-- Each answer by the tests that led to it.
 use mathlib.Core.Path.{sym}
 use borrow.Author.Tests.{lt-ltb, le-ltb}
 use Rattle.replay.specs.Reading.{seenAfter}

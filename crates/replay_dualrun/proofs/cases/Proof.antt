@@ -1,4 +1,4 @@
--- Fewer cases are left after each. Assumes nothing.
+-- Fewer cases are left after each.
 use Rattle.replay.proofs.Falls.{falls}
 use borrow.Author.Needs.{needs}
 use Rattle.replay_dualrun.proofs.cases.Statement.{statement}

@@ -1,4 +1,4 @@
--- A lent buffer keeps its length through each call. Assumes nothing.
+-- A lent buffer keeps its length through each call.
 use mathlib.Core.Path.{_∙_}
 use borrow.Author.Needs.{needs}
 use Rattle.replay_jacobi.proofs.case_of.Statement.{statement}

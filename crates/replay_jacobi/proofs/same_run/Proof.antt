@@ -1,4 +1,4 @@
--- Each answer by the tests that led to it. Assumes nothing.
+-- Each answer by the tests that led to it.
 use mathlib.Core.Path.{sym, _∙_}
 use borrow.Author.Tests.{eq-eqb, ne-eqb}
 use borrow.Author.Needs.{needs}

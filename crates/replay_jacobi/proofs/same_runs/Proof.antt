@@ -1,4 +1,4 @@
--- The first run, then the second. Assumes nothing.
+-- The first run, then the second.
 use mathlib.Core.Path.{sym, _∙_}
 use borrow.Author.Needs.{needs}
 use Rattle.replay_jacobi.proofs.same_runs.Statement.{statement}

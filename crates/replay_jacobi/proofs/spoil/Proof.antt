@@ -1,4 +1,4 @@
--- What was passed is spoiled, what is to come is as it was. Assumes nothing.
+-- What was passed is spoiled, what is to come is as it was.
 use Prim.Native.Nat.{ℕ, _+_, _-_, _≤_, _<_}
 use mathlib.Core.Path.{_≡_, refl, sym, ap, _∙_}
 use mathlib.Core.List.{List}

@@ -1,4 +1,4 @@
--- Each answer by the tests that led to it. Assumes nothing.
+-- Each answer by the tests that led to it.
 use borrow.Author.Tests.{eq-eqb, ne-eqb, le-leb, lt-leb}
 use Rattle.replay_jacobi.specs.Runs.{spoiledAt}
 use borrow.Author.Needs.{needs}

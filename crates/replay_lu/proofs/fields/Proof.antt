@@ -1,4 +1,4 @@
--- By the entry. Assumes nothing.
+-- By the entry.
 use borrow.Author.Tests.{ne-eqb}
 use borrow.Author.Needs.{needs}
 use Rattle.replay_lu.proofs.fields.Statement.{statement}

@@ -1,4 +1,4 @@
--- A product of at most 32, 32 and 4. Assumes nothing.
+-- A product of at most 32, 32 and 4.
 use native.Mathlib.Nat.{mul-le-mul}
 use native.Mathlib.Omega.{arith}
 use borrow.Author.Needs.{needs}

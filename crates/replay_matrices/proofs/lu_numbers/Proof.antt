@@ -1,4 +1,4 @@
--- By the answer. Assumes nothing.
+-- By the answer.
 use borrow.Author.Needs.{needs}
 use Rattle.replay_matrices.proofs.lu_numbers.Statement.{statement}
 use Rattle.replay_matrices.proofs.lu_numbers.Tie as tie

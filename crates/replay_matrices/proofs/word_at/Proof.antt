@@ -1,15 +1,12 @@
--- Past the end there is none. Assumes nothing.
-use mathlib.Core.Path.{sym}
-use denote.Ref.{now}
-use lib.ListN.{List·getD-eq-default}
+-- Inside it is the word; past the end 0 is what the definition gives.
 use borrow.Author.Needs.{needs}
+use Rattle.texts.proofs.Digits.{past-end}
 use Rattle.replay_matrices.proofs.word_at.Statement.{statement}
 use Rattle.replay_matrices.proofs.word_at.Tie as tie
 
-returns-2 : tie.Need-returns-2
-returns-2 c = sym (List·getD-eq-default (now (c .before .args .words)) 0 (c .if1 .left))
-
 pub word-at-spec : {M : Type 1} → statement M
-word-at-spec = tie.close (tie.spec
+word-at-spec =
+    tie.close
+    (tie.spec
     (λ c. search needs) (λ c. search needs) (λ c. search needs)
-    returns-2)
+    (λ c. search (needs, past-end)))

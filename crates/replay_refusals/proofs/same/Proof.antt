@@ -1,4 +1,4 @@
--- By the first of the three that differs. Assumes nothing.
+-- By the first of the three that differs.
 use borrow.Author.Tests.{eq-eqb, ne-eqb}
 use Rattle.replay_refusals.specs.Outcome.{sameOutcome}
 use Rattle.replay_refusals.proofs.same.Statement.{statement}

@@ -1,4 +1,4 @@
--- The word of the root is that of `word_of_float`. Assumes nothing.
+-- The word of the root is that of `word_of_float`.
 use borrow.Author.Needs.{needs}
 use Rattle.replay_root.proofs.same_root.Statement.{statement}
 use Rattle.replay_root.proofs.same_root.Tie as tie

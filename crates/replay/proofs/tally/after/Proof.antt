@@ -1,4 +1,4 @@
--- By whether it was read whole. Assumes nothing.
+-- By whether it was read whole.
 use Prim.Native.Nat.{_-_}
 use mathlib.Core.Path.{_≡_}
 use native.Mathlib.Omega.{arith}

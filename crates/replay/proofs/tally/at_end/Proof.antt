@@ -1,4 +1,4 @@
--- Turns are counted down. Assumes nothing.
+-- Turns are counted down.
 use borrow.Author.Needs.{needs}
 use Rattle.replay.proofs.tally.at_end.Statement.{statement}
 use Rattle.replay.proofs.tally.at_end.Tie as tie

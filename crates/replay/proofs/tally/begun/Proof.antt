@@ -1,4 +1,4 @@
--- By whether it was read whole. Assumes nothing.
+-- By whether it was read whole.
 use Rattle.replay.specs.Tally.{begunOf}
 use borrow.Author.Needs.{needs}
 use Rattle.replay.proofs.tally.begun.Statement.{statement}

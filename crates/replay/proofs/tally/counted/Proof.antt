@@ -1,4 +1,4 @@
--- Both counts go up by one, the second where the case differs. Assumes nothing.
+-- Both counts go up by one, the second where the case differs.
 use Rattle.replay.specs.Tally.{countedOf}
 use borrow.Author.Needs.{needs}
 use Rattle.replay.proofs.tally.counted.Statement.{statement}

@@ -1,4 +1,4 @@
--- Below the greatest number one is added. Assumes nothing.
+-- Below the greatest number one is added.
 use borrow.Author.Tests.{lt-ltb, le-ltb}
 use Rattle.replay.specs.Tally.{oneMore}
 use borrow.Author.Needs.{needs}

@@ -1,4 +1,4 @@
--- A lent buffer keeps its length through each call. Assumes nothing.
+-- A lent buffer keeps its length through each call.
 use borrow.Author.Needs.{needs}
 use Rattle.replay_lu.proofs.entries.solve.Statement.{statement}
 use Rattle.replay_lu.proofs.entries.solve.Tie as tie

@@ -1,4 +1,4 @@
--- By the answer. Assumes nothing.
+-- By the answer.
 use borrow.Author.Needs.{needs}
 use Rattle.replay_lu.proofs.over.same_hyperdual.Statement.{statement}
 use Rattle.replay_lu.proofs.over.same_hyperdual.Tie as tie

@@ -1,4 +1,4 @@
--- By the width. Assumes nothing.
+-- By the width.
 use borrow.Author.Tests.{eq-eqb, ne-eqb}
 use borrow.Author.Needs.{needs}
 use Rattle.replay_lu.proofs.over.solve.Statement.{statement}

@@ -1,4 +1,4 @@
--- Stays within the lent floats, and ends. Assumes nothing.
+-- The loop stays within what is lent, and ends: a store changes no length.
 use Prim.Native.Nat.{_≤_, _-_}
 use mathlib.Core.Path.{_≡_}
 use lib.ListN.{length, length-set}
@@ -13,18 +13,11 @@ Inv-loop style start out₀ x₀ i₀ out x i = (i ≤ length out) × (length ou
 abbrev μ-loop : tie.MeasureT-loop
 μ-loop style start out₀ x₀ i₀ out x i = length out - i
 
-loop-less : tie.Need-loop-less Inv-loop μ-loop
-loop-less c = simp length-set (omega arith)
-
-loop-again : tie.Need-loop-again Inv-loop μ-loop
-loop-again c = simp length-set (omega arith)
-
 pub floats-spec : {M : Type 1} → statement M
 floats-spec =
     tie.close
     (tie.spec Inv-loop μ-loop
     (λ c. search needs) (λ c κs. search needs) (λ c κs. search needs) (λ c. search needs) (λ c. search needs)
     (λ c. search needs)
-    loop-less
-    loop-again
+    (λ c. simp length-set (omega arith)) (λ c. simp length-set (omega arith))
     (λ c. search needs) (λ c. search needs))

@@ -1,4 +1,4 @@
--- The halves change places. Assumes nothing.
+-- The halves change places.
 use borrow.Author.Needs.{needs}
 use Rattle.replay_refusals.specs.Outcome.{joined}
 use Rattle.replay_refusals.proofs.filling.join.Statement.{statement}

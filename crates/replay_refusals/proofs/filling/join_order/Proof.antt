@@ -1,36 +1,22 @@
--- What has been joined, with the rest, stays the same. Assumes nothing.
-use Prim.Native.Nat.{ℕ, _≤_, _-_}
-use mathlib.Core.Path.{_≡_, refl}
-use lib.ListN.{length, drop}
-use native.Mathlib.Omega.{arith}
+-- The loop keeps: what has been joined, with the rest, stays the same (Joining).
 use borrow.Author.Needs.{needs}
-use Rattle.replay_refusals.specs.Outcome.{joinedWords}
-use Rattle.replay_refusals.proofs.Join.{join-turn, join-end}
+use Prim.Native.Nat.{ℕ, _-_}
+use lib.ListN.{length}
+use Rattle.replay_refusals.proofs.Join.{Joining, joining-none, joining-more, joining-all}
 use Rattle.replay_refusals.proofs.filling.join_order.Statement.{statement}
 use Rattle.replay_refusals.proofs.filling.join_order.Tie as tie
 
 abbrev Inv-loop : tie.InvT-loop
-Inv-loop start order so-far₀ i₀ so-far i = (i ≤ length order) × (joinedWords so-far (drop i order) ≡ joinedWords start order)
+Inv-loop start order so-far₀ i₀ so-far i = Joining (λ (word : ℕ). word) 0 start order so-far i
 
 abbrev μ-loop : tie.MeasureT-loop
 μ-loop start order so-far₀ i₀ so-far i = length order - i
-
-loop-holds : tie.Need-loop-holds Inv-loop μ-loop
-loop-holds c = (search needs, refl)
-
-loop-again : tie.Need-loop-again Inv-loop μ-loop
-loop-again c =
-    let at = c .before .before .before in
-    (search needs, join-turn (λ (word : ℕ). word) 0 _ (at .loop .i) _ _ _ (c .before .before .loop-test .taken) (c .join .ensures) (at .loop .inv .1))
-
-returns : tie.Need-returns Inv-loop μ-loop
-returns c = join-end (λ (word : ℕ). word) _ (c .before .loop .i) _ _ (omega arith) (c .before .loop .inv .1)
 
 pub join-order-spec : {M : Type 1} → statement M
 join-order-spec =
     tie.close
     (tie.spec Inv-loop μ-loop
-    loop-holds
+    (λ c. joining-none _ _ _ _)
     (λ c. search needs) (λ c. search needs) (λ c κs. search needs) (λ c. search needs) (λ c. search needs)
-    loop-again
-    returns)
+    (λ c. search (needs, joining-more))
+    (λ c. search (needs, joining-all)))

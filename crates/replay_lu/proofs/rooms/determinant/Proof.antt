@@ -1,0 +1,18 @@
+-- Each buffer has what is lent of it: n is at most 32, the width at most 4.
+use mathlib.Core.Path.{sym}
+use lib.Seq.{length-take-le}
+use borrow.Author.Needs.{needs}
+use Rattle.replay_lu.proofs.rooms.determinant.Statement.{statement}
+use Rattle.replay_lu.proofs.rooms.determinant.Tie as tie
+
+pub determinant-spec : {M : Type 1} → statement M
+determinant-spec =
+    tie.close
+    (tie.spec
+    (λ c κs. search needs)
+    (λ c. search needs) (λ c. sym (length-take-le _ _ (search needs)))
+    (λ c. search needs) (λ c. sym (length-take-le _ _ (search needs)))
+    (λ c. search needs) (λ c. sym (length-take-le _ _ (search needs)))
+    (λ c. search needs) (λ c. sym (length-take-le _ _ (search needs)))
+    (λ c. search needs) (λ c. sym (length-take-le _ _ (search needs)))
+    (λ c κs. search needs) (λ c. search needs))
