@@ -16,13 +16,12 @@ use Rattle.jacobi.specs.SameReals.{SameAbove, SameJacobi}
 use Rattle.jacobi.specs.declared.JacobiAnswer.{JacobiAnswer}
 use Rattle.jacobi.proofs.Slopes.{jacobi-same, below-no-effect}
 use Rattle.jacobi.proofs.OneAnswer.{jacobi-one}
-use Rattle.jacobi.proofs.jacobi_eigenvalue.Kinds as kinds
-use Rattle.jacobi.proofs.jacobi_eigenvalue.Reads as reads
+use Rattle.jacobi.proofs.jacobi_eigenvalue as entry
 
-module _ (κs κs′ : Lfts 3) (a : Dens κs kinds.ps) (a′ : Dens κs′ kinds.ps) (x x′ : JacobiAnswer)
-    (v : Lasts (endedOf 3 kinds.ps kinds.r) κs a) (v′ : Lasts (endedOf 3 kinds.ps kinds.r) κs′ a′)
-    (p : reads.Post κs a x (atExit (endedOf 3 kinds.ps kinds.r) κs a v))
-    (p′ : reads.Post κs′ a′ x′ (atExit (endedOf 3 kinds.ps kinds.r) κs′ a′ v′))
+module _ (κs κs′ : Lfts 3) (a : Dens κs entry.Kinds.ps) (a′ : Dens κs′ entry.Kinds.ps) (x x′ : JacobiAnswer)
+    (v : Lasts (endedOf 3 entry.Kinds.ps entry.Kinds.r) κs a) (v′ : Lasts (endedOf 3 entry.Kinds.ps entry.Kinds.r) κs′ a′)
+    (p : entry.Reads.Post κs a x (atExit (endedOf 3 entry.Kinds.ps entry.Kinds.r) κs a v))
+    (p′ : entry.Reads.Post κs′ a′ x′ (atExit (endedOf 3 entry.Kinds.ps entry.Kinds.r) κs′ a′ v′))
     (n : a .0 ≡ a′ .0) (limit : a .1 .1 .0 ≡ a′ .1 .1 .0) where
   -- what the second call leaves, by the size and the limit of the first
   second : jacobiAnswered (outcome x′) (v′ .1 .1 .1 .0) (v′ .1 .1 .1 .1 .0)

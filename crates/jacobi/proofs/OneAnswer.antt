@@ -7,10 +7,8 @@ use Rattle.jacobi.specs.Entry.{JacobiLeft}
 use Rattle.jacobi.specs.Answer.{outcome}
 use Rattle.jacobi.specs.declared.JacobiAnswer.{JacobiAnswer}
 use Rattle.jacobi.specs.declared.JacobiAnswer.the-variants.{Done, Refused}
-use Rattle.jacobi.proofs.jacobi_eigenvalue.Kinds as kinds
-use Rattle.jacobi.proofs.jacobi_eigenvalue.Reads as reads
-use Rattle.jacobi.proofs.JacobiAnswer.number.Kinds as number-k
-use Rattle.jacobi.proofs.JacobiAnswer.number.Reads as number
+use Rattle.jacobi.proofs.jacobi_eigenvalue as entry
+use Rattle.jacobi.proofs.JacobiAnswer.number as number
 
 -- document 01's reading tells the answers apart
 pub jacobi-one : (x y : JacobiAnswer) → outcome x ≡ outcome y → x ≡ y
@@ -19,12 +17,12 @@ jacobi-one (Done s) (Refused k) e = cc
 jacobi-one (Refused k) (Done t) e = cc
 jacobi-one (Refused k) (Refused j) e = cc
 
-pub jacobi-only : Only 3 kinds.ps kinds.r reads.Pre reads.Post
+pub jacobi-only : Only 3 entry.Kinds.ps entry.Kinds.r entry.Reads.Pre entry.Reads.Post
 jacobi-only κs a x y v w h p q =
     let e = p ∙ sym q in (
       jacobi-one x y (ap (λ (l : JacobiLeft). l .answer) e),
-      λ i. atExit (endedOf 3 kinds.ps kinds.r) κs a (v .0, (v .1 .0, (v .1 .1 .0, (ap (λ (l : JacobiLeft). l .values) e i, (ap (λ (l : JacobiLeft). l .vectors) e i, tt))))),
+      λ i. atExit (endedOf 3 entry.Kinds.ps entry.Kinds.r) κs a (v .0, (v .1 .0, (v .1 .1 .0, (ap (λ (l : JacobiLeft). l .values) e i, (ap (λ (l : JacobiLeft). l .vectors) e i, tt))))),
     )
 
-pub number-only : Only 0 number-k.ps number-k.r number.Pre number.Post
+pub number-only : Only 0 number.Kinds.ps number.Kinds.r number.Reads.Pre number.Reads.Post
 number-only κs a x y v w h p q = (p ∙ sym q, refl)

@@ -22,8 +22,7 @@ use Rattle.jacobi.specs.Entry.{jacobiRefusal, JacobiLeft, jacobiAnswered
 use Rattle.jacobi.specs.PreviousContents.{EqualJacobi}
 use Rattle.jacobi.specs.Sort.{jacobiOf}
 use Rattle.jacobi.specs.declared.JacobiAnswer.{JacobiAnswer}
-use Rattle.jacobi.proofs.jacobi_eigenvalue.Kinds as kinds
-use Rattle.jacobi.proofs.jacobi_eigenvalue.Reads as reads
+use Rattle.jacobi.proofs.jacobi_eigenvalue as entry
 
 -- over any record, by the two ways out
 module _ {R : Type 0} (A : Algebra R) (L : Layout R) (n : ℕ) (a : List Float) (limit : ℕ) where
@@ -46,7 +45,7 @@ module _ {R : Type 0} (A : Algebra R) (L : Layout R) (n : ℕ) (a : List Float) 
       go true k e = absurd (not-both e)
       go false k e = (refl, refl)
 
-module _ (κs : Lfts 3) (a : Dens κs kinds.ps) (x : JacobiAnswer) (v : Lasts (endedOf 3 kinds.ps kinds.r) κs a) (p : reads.Post κs a x (atExit (endedOf 3 kinds.ps kinds.r) κs a v)) where
+module _ (κs : Lfts 3) (a : Dens κs entry.Kinds.ps) (x : JacobiAnswer) (v : Lasts (endedOf 3 entry.Kinds.ps entry.Kinds.r) κs a) (p : entry.Reads.Post κs a x (atExit (endedOf 3 entry.Kinds.ps entry.Kinds.r) κs a v)) where
   -- a call that is refused leaves both buffers as they were
   pub jacobi-nothing-written : (number : ℕ) → outcome x ≡ refused number → (v .1 .1 .1 .0 ≡ now (a .1 .1 .1 .0)) × (v .1 .1 .1 .1 .0 ≡ now (a .1 .1 .1 .1 .0))
   jacobi-nothing-written number e =
@@ -54,7 +53,7 @@ module _ (κs : Lfts 3) (a : Dens κs kinds.ps) (x : JacobiAnswer) (v : Lasts (e
       (ap (λ (l : JacobiLeft). l .values) p ∙ k .0, ap (λ (l : JacobiLeft). l .vectors) p ∙ k .1)
 
   -- two calls with the same size, matrix and limit, whatever the result's buffers held
-  pub jacobi-previous-contents : (κs′ : Lfts 3) (a′ : Dens κs′ kinds.ps) (x′ : JacobiAnswer) (v′ : Lasts (endedOf 3 kinds.ps kinds.r) κs′ a′) → reads.Post κs′ a′ x′ (atExit (endedOf 3 kinds.ps kinds.r) κs′ a′ v′)
+  pub jacobi-previous-contents : (κs′ : Lfts 3) (a′ : Dens κs′ entry.Kinds.ps) (x′ : JacobiAnswer) (v′ : Lasts (endedOf 3 entry.Kinds.ps entry.Kinds.r) κs′ a′) → entry.Reads.Post κs′ a′ x′ (atExit (endedOf 3 entry.Kinds.ps entry.Kinds.r) κs′ a′ v′)
       → a .0 ≡ a′ .0 → now (a .1 .0) ≡ now (a′ .1 .0) → a .1 .1 .0 ≡ a′ .1 .1 .0
       → length (now (a .1 .1 .1 .0)) ≡ length (now (a′ .1 .1 .1 .0)) → length (now (a .1 .1 .1 .1 .0)) ≡ length (now (a′ .1 .1 .1 .1 .0))
       → EqualJacobi (jacobiAnswered (outcome x) (v .1 .1 .1 .0) (v .1 .1 .1 .1 .0)) (jacobiAnswered (outcome x′) (v′ .1 .1 .1 .0) (v′ .1 .1 .1 .1 .0))
