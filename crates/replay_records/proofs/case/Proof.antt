@@ -9,6 +9,10 @@ use borrow.Author.Needs.{needs}
 use Rattle.replay_records.proofs.case.Statement.{statement}
 use Rattle.replay_records.proofs.case.Tie as tie
 
+-- a part lent is as long as it says
+as-lent : {A : Type 0} (n : ℕ) (l : List A) → n ≤ length l → n ≡ length (take n l)
+as-lent n l h = sym (length-take-le n l h)
+
 -- two buffers lent as far are as long
 as-long : {A B : Type 0} (n : ℕ) (l : List A) (m : List B) → n ≤ length l → n ≤ length m → length (take n l) ≡ length (take n m)
 as-long n l m h k = length-take-le n l h ∙ sym (length-take-le n m k)
@@ -16,25 +20,6 @@ as-long n l m h k = length-take-le n l h ∙ sym (length-take-le n m k)
 -- and not empty where that is not 0
 positive : {A : Type 0} (n : ℕ) (l : List A) → 0 < n → n ≤ length l → 0 < length (take n l)
 positive n l h k = rw (length-take-le n l k) h
-
--- each part lent is as long as it says
-slice-aggregate-case-of : tie.Need-slice-aggregate-case-of
-slice-aggregate-case-of c = sym (length-take-le _ _ (search needs))
-
-slice-aggregate-case-of-2 : tie.Need-slice-aggregate-case-of-2
-slice-aggregate-case-of-2 c = sym (length-take-le _ _ (search needs))
-
-slice-aggregate-case-of-3 : tie.Need-slice-aggregate-case-of-3
-slice-aggregate-case-of-3 c = sym (length-take-le _ _ (search needs))
-
-slice-aggregate-case-of-4 : tie.Need-slice-aggregate-case-of-4
-slice-aggregate-case-of-4 c = sym (length-take-le _ _ (search needs))
-
-slice-aggregate-case-of-5 : tie.Need-slice-aggregate-case-of-5
-slice-aggregate-case-of-5 c = sym (length-take-le _ _ (search needs))
-
-slice-aggregate-case-of-6 : tie.Need-slice-aggregate-case-of-6
-slice-aggregate-case-of-6 c = sym (length-take-le _ _ (search needs))
 
 -- an answer has between 1 and 16 words, and out and left are lent as far
 case-of-requires : tie.Need-case-of-requires
@@ -49,16 +34,16 @@ case-spec =
     (tie.spec
     (λ c κs. search needs) (λ c. search needs) (λ c. search needs) (λ c. search needs) (λ c κs. search needs)
     (λ c κs. search needs) (λ c. search needs)
-    slice-aggregate-case-of
+    (λ c. as-lent _ _ (search needs))
     (λ c. search needs)
-    slice-aggregate-case-of-2
+    (λ c. as-lent _ _ (search needs))
     (λ c. search needs)
-    slice-aggregate-case-of-3
+    (λ c. as-lent _ _ (search needs))
     (λ c. search needs)
-    slice-aggregate-case-of-4
+    (λ c. as-lent _ _ (search needs))
     (λ c. search needs)
-    slice-aggregate-case-of-5
+    (λ c. as-lent _ _ (search needs))
     (λ c. search needs)
-    slice-aggregate-case-of-6
+    (λ c. as-lent _ _ (search needs))
     case-of-requires
     (λ c. search needs))

@@ -42,7 +42,10 @@ loop-holds c = (refl, λ k h. absurd (omega arith))
 
 -- the word stored is the one of its place
 loop-again : tie.Need-loop-again Inv-loop μ-loop
-loop-again c = turn (now (c .before .before .before .args .pool)) (c .before .before .before .args .places) (now (c .before .before .before .args .out)) (c .before .before .loop .out) (c .before .before .loop .i) (c .before .before .loop .inv .0) (c .before .before .loop .inv .1) (search needs)
+loop-again c =
+    let at = c .before .before in
+    let a = at .before .args in
+    turn (now (a .pool)) (a .places) (now (a .out)) (at .loop .out) (at .loop .i) (at .loop .inv .0) (at .loop .inv .1) (search needs)
 
 -- past the last place the list is whole
 returns : tie.Need-returns Inv-loop μ-loop
