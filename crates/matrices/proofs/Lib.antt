@@ -6,6 +6,7 @@ pub mod Odd
 pub mod Places
 -- LU: its columns case by case
 pub mod Lu
+mod PivotBrought
 -- the order: permutations and parity, and their tests in one pass
 pub mod Permutation
 mod Times
@@ -19,7 +20,7 @@ pub mod RowsOfRecords
 pub mod Inner
 pub mod Starts
 pub mod Answers
-mod LengthTests
+mod RefusalTests
 -- beside demand 3, of what the entries leave: previous contents and refusals, and that what LU left is accepted
 mod PreviousContents
 mod AfterLu

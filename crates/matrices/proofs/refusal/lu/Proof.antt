@@ -1,7 +1,7 @@
 -- The tests in their order are the definition's: each way out is one of their laws.
 use borrow.Author.Needs.{needs}
 use native.Mathlib.Omega.{arith}
-use Rattle.matrices.proofs.LengthTests.{lengths}
+use Rattle.matrices.proofs.RefusalTests.{lengths}
 use Rattle.matrices.proofs.Places.{few}
 use Rattle.matrices.proofs.refusal.lu.Statement.{statement}
 use Rattle.matrices.proofs.refusal.lu.Tie as tie

@@ -1,32 +1,31 @@
 -- Each way out is a case of the definition's two tests.
-use mathlib.Core.Path.{_≡_, refl, sym, ap, _∙_}
-use borrow.Author.Tests.{lt-ltb, le-ltb}
-use mathlib.Core.Bool.{Bool, cond}
+use Prim.Native.Nat.{ℕ, _%_, _≤_, _<_}
+use mathlib.Core.Path.{_≡_, refl, sym}
+use mathlib.Core.Bool.{Bool, true, false}
+use lib.Dec.{eqb}
 use borrow.Author.Needs.{needs}
-use Rattle.matrices.specs.Order.{differ, isOdd}
+use borrow.Author.Tests.{lt-ltb, le-ltb}
+use Rattle.refusals.specs.Largest as largest
+use Rattle.refusals.specs.Number as refusal
+use Rattle.matrices.specs.Entries.{countRefusal}
+use Rattle.matrices.specs.Order.{differ}
 use Rattle.matrices.proofs.Odd.{odd-mod}
 use Rattle.matrices.proofs.refusal.swap_count.Statement.{statement}
 use Rattle.matrices.proofs.refusal.swap_count.Tie as tie
 
--- the code's test of the parities
-tested : (c : tie.After-differs) → c .differs .result ≡ differ (isOdd (c .before .before .args .swaps)) (c .before .before .args .odd)
-tested c = c .differs .ensures ∙ ap (λ (t : Bool). differ t (c .before .before .args .odd)) (odd-mod (c .before .before .args .swaps))
+too-many : (s : ℕ) (odd : Bool) → largest.swaps < s → refusal.wrongSwaps ≡ countRefusal odd s
+too-many s odd h = rw (lt-ltb largest.swaps s h) refl
 
--- above the largest
-returns : tie.Need-returns
-returns c = rw (lt-ltb 32 _ (c .if1 .taken)) refl
+module _ (s : ℕ) (odd b : Bool) (h : s ≤ largest.swaps) (e : b ≡ differ (eqb (s % 2) 1) odd) where
+  other-parity : b ≡ true → refusal.wrongSwaps ≡ countRefusal odd s
+  other-parity u = rw (le-ltb largest.swaps s h, ← odd-mod s, ← e, u) refl
 
--- of the other parity
-returns-2 : tie.Need-returns-2
-returns-2 c = rw (le-ltb 32 _ (c .before .before .if1 .left)) (ap (λ (t : Bool). cond t 8 0) (sym (c .if2 .taken) ∙ tested (c .before)))
-
--- of the same
-returns-3 : tie.Need-returns-3
-returns-3 c = rw (le-ltb 32 _ (c .before .before .if1 .left)) (ap (λ (t : Bool). cond t 8 0) (sym (c .if2 .left) ∙ tested (c .before)))
+  same-parity : b ≡ false → 0 ≡ countRefusal odd s
+  same-parity u = rw (le-ltb largest.swaps s h, ← odd-mod s, ← e, u) refl
 
 pub swap-count-spec : {M : Type 1} → statement M
 swap-count-spec = tie.close (tie.spec
-    returns
+    (λ c. search (needs, too-many))
     (λ c κs. search needs)
-    returns-2
-    returns-3)
+    (λ c. search (needs, other-parity))
+    (λ c. search (needs, same-parity)))

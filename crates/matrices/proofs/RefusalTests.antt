@@ -1,11 +1,20 @@
--- The tests of an entry's size and lengths, one after another: the first that fails gives its number; where none does, what is asked next decides. Assumes nothing.
+-- A test's two ways out; and the tests of an entry's size and lengths, one after another: the first that fails gives its number, and where none does what is asked next decides.
+-- Assumes nothing.
 use Prim.Native.Nat.{ℕ, _≤_, _<_}
-use mathlib.Core.Path.{_≡_, refl, ap, _∙_}
+use mathlib.Core.Path.{_≡_, refl, ap, sym, _∙_}
 use mathlib.Core.Bool.{Bool, true, false, cond, _&&_}
 use lib.Dec.{ltb, eqb}
 use borrow.Author.Tests.{lt-ltb, le-ltb, eq-eqb, ne-eqb}
 use Rattle.refusals.specs.Largest as largest
 use Rattle.refusals.specs.Number as refusal
+
+-- b is what the code found, t what the definition asks
+module _ {S : Type 0} (t b : Bool) (x y r : S) (told : b ≡ t) where
+  pub test-true : b ≡ true → r ≡ x → r ≡ cond t x y
+  test-true h e = e ∙ ap (λ (s : Bool). cond s x y) (sym h ∙ told)
+
+  pub test-false : b ≡ false → r ≡ y → r ≡ cond t x y
+  test-false h e = e ∙ ap (λ (s : Bool). cond s x y) (sym h ∙ told)
 
 pub too-large : (n k : ℕ) → largest.n < n → refusal.tooLarge ≡ cond (ltb largest.n n) refusal.tooLarge k
 too-large n k h = rw (lt-ltb largest.n n h) refl
