@@ -6,6 +6,7 @@ pub mod Odd
 pub mod Places
 -- LU: its columns case by case
 pub mod Lu
+mod PivotSought
 mod PivotBrought
 -- the order: permutations and parity, and their tests in one pass
 pub mod Permutation
