@@ -12,8 +12,10 @@ use Rattle.calls.specs.Called.{Kind}
 abbrev pub dual2DerivativeTable : Dual2 → List (ℕ × Outcome Dual2)
 dual2DerivativeTable x = (0x05, value (dual2Derivative x)) ∷ []
 
+-- no other number is one of them
 abbrev pub dual2Derivatives : ℕ → Dual2 → Outcome Dual2
 dual2Derivatives function x = find function (dual2DerivativeTable x) (refused refusal.wrongLength)
 
+-- what calls use of the record
 abbrev pub dual2Kind : Kind Dual2
 dual2Kind = record { algebra = dual2Algebra; layout = dual2Layout; derivative = dual2Derivatives }

@@ -12,8 +12,10 @@ use Rattle.calls.specs.Called.{Kind}
 abbrev pub dual3DerivativeTable : Dual3 → List (ℕ × Outcome Dual3)
 dual3DerivativeTable x = (0x05, value (dual3Derivative x)) ∷ []
 
+-- no other number is one of them
 abbrev pub dual3Derivatives : ℕ → Dual3 → Outcome Dual3
 dual3Derivatives function x = find function (dual3DerivativeTable x) (refused refusal.wrongLength)
 
+-- what calls use of the record
 abbrev pub dual3Kind : Kind Dual3
 dual3Kind = record { algebra = dual3Algebra; layout = dual3Layout; derivative = dual3Derivatives }

@@ -12,8 +12,10 @@ use Rattle.calls.specs.Called.{Kind}
 abbrev pub hyperDualDerivativeTable : HyperDual → List (ℕ × Outcome HyperDual)
 hyperDualDerivativeTable x = (0x06, value (hyperDualDerivative1 x)) ∷ (0x07, value (hyperDualDerivative2 x)) ∷ []
 
+-- no other number is one of them
 abbrev pub hyperDualDerivatives : ℕ → HyperDual → Outcome HyperDual
 hyperDualDerivatives function x = find function (hyperDualDerivativeTable x) (refused refusal.wrongLength)
 
+-- what calls use of the record
 abbrev pub hyperDualKind : Kind HyperDual
 hyperDualKind = record { algebra = hyperDualAlgebra; layout = hyperDualLayout; derivative = hyperDualDerivatives }

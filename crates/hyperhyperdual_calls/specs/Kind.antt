@@ -12,8 +12,10 @@ use Rattle.calls.specs.Called.{Kind}
 abbrev pub hyperHyperDualDerivativeTable : HyperHyperDual → List (ℕ × Outcome HyperHyperDual)
 hyperHyperDualDerivativeTable x = (0x06, value (hyperHyperDualDerivative1 x)) ∷ (0x07, value (hyperHyperDualDerivative2 x)) ∷ (0x08, value (hyperHyperDualDerivative3 x)) ∷ []
 
+-- no other number is one of them
 abbrev pub hyperHyperDualDerivatives : ℕ → HyperHyperDual → Outcome HyperHyperDual
 hyperHyperDualDerivatives function x = find function (hyperHyperDualDerivativeTable x) (refused refusal.wrongLength)
 
+-- what calls use of the record
 abbrev pub hyperHyperDualKind : Kind HyperHyperDual
 hyperHyperDualKind = record { algebra = hyperHyperDualAlgebra; layout = hyperHyperDualLayout; derivative = hyperHyperDualDerivatives }

@@ -1,4 +1,4 @@
-// The records' own methods, where a call by number reaches what they do by another name: constants, scale, recip, inv, sqrt, comparisons and tests. Each is asked for
+// The records' own methods, where a call by number reaches what they do by another name: constants, scale, recip, inv, sqrt and the predicates. Each is asked for
 // what the file has.
 pub mod of_dual;
 pub mod of_dual2;

@@ -15,8 +15,8 @@ const SUM: u32 = 0x39;
 
 const PRODUCT: u32 = 0x3a;
 
-// Comparisons and tests come from here on.
-const TESTS: u32 = 0x3b;
+// The predicates come from here on.
+const PREDICATES: u32 = 0x3b;
 
 // The sum or the product of a run, in lent floats.
 fn joined(
@@ -67,7 +67,7 @@ pub(crate) fn answer(
         return joined(kind, function, records, run, left, out);
     }
     let number = kinds::call(kind, function, exponent, records, floats, out);
-    if function < TESTS {
+    if function < PREDICATES {
         return number;
     }
     out[0] = replay_table::truth(out[0]);
