@@ -70,28 +70,28 @@ counted l m r a e =
 
 -- ---- a loop that writes one piece after the other
 -- what it keeps: i of n pieces are written, `upto i` so far
-pub record Filled (upto : ℕ → List ℕ) (n : ℕ) (p : Page) (out : List ℕ) (end i : ℕ) : Type 0 where
+pub record Pieces (upto : ℕ → List ℕ) (n : ℕ) (p : Page) (out : List ℕ) (end i : ℕ) : Type 0 where
   pub within : i ≤ n
-  pub filled : page out end ≡ written p (upto i)
+  pub put : page out end ≡ written p (upto i)
 
 module _ (upto : ℕ → List ℕ) (n : ℕ) where
-  pub filled-none : (out : List ℕ) (at : ℕ) → upto 0 ≡ [] → Filled upto n (page out at) out at 0
+  pub pieces-none : (out : List ℕ) (at : ℕ) → upto 0 ≡ [] → Pieces upto n (page out at) out at 0
   unfolding written
-  filled-none out at e = record { within = omega arith; filled = ap (written (page out at)) (sym e) }
+  pieces-none out at e = record { within = omega arith; put = ap (written (page out at)) (sym e) }
 
-  module _ (p : Page) (out : List ℕ) (end i : ℕ) (so-far : Filled upto n p out end i) where
-    pub filled-more : (after : List ℕ) (r : ℕ) (piece : List ℕ) → page after r ≡ written (page out end) piece → i < n → upto i ++ piece ≡ upto (i + 1) → Filled upto n p after r (i + 1)
-    filled-more after r piece e lt g = record { within = omega arith; filled = then p (upto i) piece (so-far .filled) e ∙ ap (written p) g }
+  module _ (p : Page) (out : List ℕ) (end i : ℕ) (so-far : Pieces upto n p out end i) where
+    pub pieces-more : (after : List ℕ) (r : ℕ) (piece : List ℕ) → page after r ≡ written (page out end) piece → i < n → upto i ++ piece ≡ upto (i + 1) → Pieces upto n p after r (i + 1)
+    pieces-more after r piece e lt g = record { within = omega arith; put = then p (upto i) piece (so-far .put) e ∙ ap (written p) g }
 
-    pub filled-length : length out ≡ length (p .bytes)
-    filled-length = ap (λ (q : Page). length (q .bytes)) (so-far .filled) ∙ written-length p (upto i)
+    pub pieces-length : length out ≡ length (p .bytes)
+    pieces-length = ap (λ (q : Page). length (q .bytes)) (so-far .put) ∙ written-length p (upto i)
 
-    pub filled-all : (text : List ℕ) → n ≤ i → upto n ≡ text → page out end ≡ written p text
-    filled-all text h g = so-far .filled ∙ ap (λ (k : ℕ). written p (upto k)) (let w = so-far .within in let e : i ≡ n = omega arith in e) ∙ ap (written p) g
+    pub pieces-all : (text : List ℕ) → n ≤ i → upto n ≡ text → page out end ≡ written p text
+    pieces-all text h g = so-far .put ∙ ap (λ (k : ℕ). written p (upto k)) (let w = so-far .within in let e : i ≡ n = omega arith in e) ∙ ap (written p) g
 
 -- a text, byte after byte
 pub byte-more : (t : List ℕ) (i : ℕ) → i < length t → take i t ++ (getD t i 0 ∷ []) ≡ take (i + 1) t
 byte-more t i h = sym (take-suc t i 0 h) ∙ ap (λ (k : ℕ). take k t) (sym (add-one i))
 
-pub text-all : (p : Page) (t out : List ℕ) (end i : ℕ) → Filled (λ j. take j t) (length t) p out end i → length t ≤ i → page out end ≡ written p t
-text-all p t out end i f h = filled-all (λ j. take j t) (length t) p out end i f t h (take-all (length t) t (omega arith))
+pub text-all : (p : Page) (t out : List ℕ) (end i : ℕ) → Pieces (λ j. take j t) (length t) p out end i → length t ≤ i → page out end ≡ written p t
+text-all p t out end i f h = pieces-all (λ j. take j t) (length t) p out end i f t h (take-all (length t) t (omega arith))

@@ -1,4 +1,4 @@
--- `replay::next_word` ends: turns are counted down.
+-- The loop ends: its turns are counted down.
 use borrow.Author.Needs.{needs}
 use Rattle.replay.proofs.next_word.Statement.{statement}
 use Rattle.replay.proofs.next_word.Tie as tie

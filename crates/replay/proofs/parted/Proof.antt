@@ -1,4 +1,4 @@
--- By the byte.
+-- By the byte: what ends a word, what begins a comment, any other.
 use Prim.Native.Nat.{ℕ}
 use mathlib.Core.Bool.{true, false, not}
 use mathlib.Core.Logic.{_⊎_, inl, inr}
@@ -21,13 +21,16 @@ other : (s : Seen) (b : ℕ) → ((b ≡ newline) ⊎ (b ≡ space) → ⊥) →
 unfolding parted
 other s b h k = rw (ne-eqb b space (λ e. h (inr e)), ne-eqb b newline (λ e. h (inl e)), ne-eqb b numberSign k)
 
+-- a space or a newline
 returns : tie.Need-returns
 returns c = ends _ _ (c .match .keys1)
 
+-- the number sign
 returns-2 : tie.Need-returns-2
 unfolding parted
 returns-2 c = simp (c .match .keys2)
 
+-- any other byte
 returns-3 : tie.Need-returns-3
 returns-3 c = other _ _ (c .match .rest .0 .1) (c .match .rest .1)
 

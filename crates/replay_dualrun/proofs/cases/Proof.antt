@@ -1,4 +1,4 @@
--- Fewer cases are left after each.
+-- The loop ends: fewer cases are left after each.
 use Rattle.replay.proofs.Falls.{falls}
 use borrow.Author.Needs.{needs}
 use Rattle.replay_dualrun.proofs.cases.Statement.{statement}
@@ -10,13 +10,10 @@ Inv-loop file buffer₀ run₀ buffer run = Unit {0}
 abbrev μ-loop : tie.MeasureT-loop
 μ-loop file buffer₀ run₀ buffer run = run .left
 
-loop-less : tie.Need-loop-less Inv-loop μ-loop
-loop-less c = falls _ _ _ (search needs) (c .after .ensures)
-
 pub cases-spec : {M : Type 1} → statement M
 cases-spec =
     tie.close
     (tie.spec Inv-loop μ-loop
     (λ c κs. search needs) (λ c. search needs) (λ c κs. search needs) (λ c κs. search needs)
-    loop-less
+    (λ c. search (needs, falls))
     (λ c. search needs) (λ c κs. search needs) (λ c. search needs))

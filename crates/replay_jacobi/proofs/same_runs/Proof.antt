@@ -4,9 +4,11 @@ use borrow.Author.Needs.{needs}
 use Rattle.replay_jacobi.proofs.same_runs.Statement.{statement}
 use Rattle.replay_jacobi.proofs.same_runs.Tie as tie
 
+-- the first is the same: by the second
 returns : tie.Need-returns
 returns c = rw (sym (c .before .before .same-run .ensures) ∙ c .before .if1 .taken) (c .same-run2 .ensures)
 
+-- the first differs
 returns-2 : tie.Need-returns-2
 returns-2 c = rw (sym (c .before .same-run .ensures) ∙ c .if1 .left)
 

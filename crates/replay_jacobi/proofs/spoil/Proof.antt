@@ -1,4 +1,4 @@
--- What was passed is spoiled, what is to come is as it was.
+-- The loop keeps: what was passed is spoiled, what is to come is as it was (Spoiling).
 use Prim.Native.Nat.{ℕ, _+_, _-_, _≤_, _<_}
 use mathlib.Core.Path.{_≡_, refl, sym, ap, _∙_}
 use mathlib.Core.List.{List}
@@ -42,18 +42,23 @@ Inv-loop n a₀ k₀ a k = Spoiling n a₀ a k
 abbrev μ-loop : tie.MeasureT-loop
 μ-loop n a₀ k₀ a k = length a₀ - k
 
+-- nothing is passed yet
 loop-holds : tie.Need-loop-holds Inv-loop μ-loop
 loop-holds c = record { long = refl; filled = λ j h. absurd (omega arith); rest = λ j h. refl }
 
+-- one float fewer is left
 loop-less : tie.Need-loop-less Inv-loop μ-loop
 loop-less c = omega (arith, c .before .before .before .loop .inv .long)
 
+-- a store changes one float alone
 loop-again : tie.Need-loop-again Inv-loop μ-loop
 loop-again c = turn _ _ _ _ (c .before .before .before .loop .inv) _ (search needs) (c .spoiled .ensures)
 
+-- and no length
 same-length : tie.Need-same-length Inv-loop μ-loop
 same-length c = c .before .loop .inv .long
 
+-- all is passed
 returns : tie.Need-returns Inv-loop μ-loop
 returns c = all _ _ _ _ (c .before .loop .inv) (c .loop-test .left)
 

@@ -1,4 +1,4 @@
--- Stays within the sixteen numbers, and ends.
+-- The loop stays within the sixteen numbers, and ends.
 use Prim.Native.Nat.{_≤_, _-_}
 use borrow.Author.Needs.{needs}
 use Rattle.replay_refusals.proofs.read_numbers.Statement.{statement}

@@ -3,6 +3,7 @@ use borrow.Author.Needs.{needs}
 use Rattle.replay_root.proofs.same_root.Statement.{statement}
 use Rattle.replay_root.proofs.same_root.Tie as tie
 
+-- what `word_of_float` tells is the definition
 returns : tie.Need-returns
 returns c = rw (c .word-of-float .ensures)
 

@@ -16,6 +16,7 @@ abbrev μ-loop : tie.MeasureT-loop
 same-length : tie.Need-same-length Inv-loop μ-loop
 same-length c = let h = c .before .before .before .before .loop .inv .size in search needs
 
+-- the same at the end of the loop
 same-length-2 : tie.Need-same-length-2 Inv-loop μ-loop
 same-length-2 c = let h = c .before .loop .inv .size in search needs
 

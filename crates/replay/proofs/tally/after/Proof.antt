@@ -7,16 +7,19 @@ use borrow.Author.Needs.{needs}
 use Rattle.replay.proofs.tally.after.Statement.{statement}
 use Rattle.replay.proofs.tally.after.Tie as tie
 
+-- whole, and some are left
 returns : tie.Need-returns
 unfolding afterOf
 returns c = rw (c .before .before .if1 .taken, c .before .counted .ensures)
 
+-- whole, and none is left: 0 - 1 is 0
 returns-2 : tie.Need-returns-2
 unfolding afterOf
 returns-2 c =
     let none : c .before .before .before .before .before .args .run .left - 1 ≡ 0 = omega arith in
     rw (c .before .before .if1 .taken, c .before .counted .ensures, none)
 
+-- not whole: it differs, and none is left
 returns-3 : tie.Need-returns-3
 unfolding afterOf
 returns-3 c = simp (c .before .if1 .left, c .counted2 .ensures)

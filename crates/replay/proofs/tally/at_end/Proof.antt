@@ -1,4 +1,4 @@
--- Turns are counted down.
+-- The loop ends: its turns are counted down.
 use borrow.Author.Needs.{needs}
 use Rattle.replay.proofs.tally.at_end.Statement.{statement}
 use Rattle.replay.proofs.tally.at_end.Tie as tie

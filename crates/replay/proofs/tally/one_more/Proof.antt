@@ -5,10 +5,12 @@ use borrow.Author.Needs.{needs}
 use Rattle.replay.proofs.tally.one_more.Statement.{statement}
 use Rattle.replay.proofs.tally.one_more.Tie as tie
 
+-- below the greatest number
 returns : tie.Need-returns
 unfolding oneMore
 returns c = simp (lt-ltb _ _ (c .if1 .taken))
 
+-- the greatest number stays
 returns-2 : tie.Need-returns-2
 unfolding oneMore
 returns-2 c = simp (le-ltb _ _ (c .if1 .left))

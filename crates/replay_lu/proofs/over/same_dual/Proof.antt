@@ -1,8 +1,9 @@
--- By the answer.
+-- By the answer: a value or a refusal.
 use borrow.Author.Needs.{needs}
 use Rattle.replay_lu.proofs.over.same_dual.Statement.{statement}
 use Rattle.replay_lu.proofs.over.same_dual.Tie as tie
 
+-- a value is compared by its floats; a refusal is never the same
 returns : tie.Need-returns
 returns c = rw (c .before .before .before .answer .given .1) (c .same-floats .ensures)
 

@@ -1,21 +1,15 @@
--- By the width.
-use borrow.Author.Tests.{eq-eqb, ne-eqb}
+-- By the width: each record by its own entry.
 use borrow.Author.Needs.{needs}
+use Rattle.replay_lu.proofs.Width.{over-dual, over-hyperdual}
 use Rattle.replay_lu.proofs.over.solve.Statement.{statement}
 use Rattle.replay_lu.proofs.over.solve.Tie as tie
 use Rattle.hyperdual_lu.proofs.solve.Reads as solve-reads′
-
-returns : tie.Need-returns
-returns c = rw (eq-eqb _ _ (c .before .before .before .before .if1 .taken)) (c .before .before .solve .ensures)
-
-returns-2 : tie.Need-returns-2
-returns-2 c = rw (ne-eqb _ _ (c .before .before .before .before .if1 .left)) (c .before .before .solve2 .ensures)
 
 pub solve-spec : {M : Type 1} → statement M
 solve-spec =
     tie.close
     (tie.spec
     (λ c κs. search needs) (λ c κs. search needs) (λ c. search needs)
-    returns
+    (λ c. search (needs, over-dual))
     (λ c. search needs)
-    returns-2)
+    (λ c. search (needs, over-hyperdual)))

@@ -1,9 +1,10 @@
--- The halves change places.
+-- The halves change places: the same operations as the definition has.
 use borrow.Author.Needs.{needs}
 use Rattle.replay_refusals.specs.Outcome.{joined}
 use Rattle.replay_refusals.proofs.filling.join.Statement.{statement}
 use Rattle.replay_refusals.proofs.filling.join.Tie as tie
 
+-- the definition has the same operations
 returns : tie.Need-returns
 unfolding joined
 returns c = search needs
