@@ -7,7 +7,15 @@ use lib.Dec.{eqb}
 use lib.Ieee.{Float}
 use borrow.Author.Tests.{eq-eqb, ne-eqb}
 use Rattle.refusals.specs.Number as refusal
-use Rattle.algebra.specs.Outcome.{numberOf}
+use Rattle.algebra.specs.Outcome.{Outcome, numberOf}
+use Rattle.dual.specs.Rules as dual
+use Rattle.dual.specs.declared.Dual.{Dual}
+use Rattle.dual.specs.declared.DualAnswer.{DualAnswer}
+use Rattle.dual.specs.declared.DualAnswer.the-variants as value
+use Rattle.hyperdual.specs.Rules as hyperdual
+use Rattle.hyperdual.specs.declared.HyperDual.{HyperDual}
+use Rattle.hyperdual.specs.declared.HyperDualAnswer.{HyperDualAnswer}
+use Rattle.hyperdual.specs.declared.HyperDualAnswer.the-variants as hyper
 use Rattle.matrices.specs.Entries.{LuLeft, luAnswered, SolveLeft, solveAnswered}
 use Rattle.matrices.specs.Answers.{luOutcome, luColumn, solveOutcome}
 use Rattle.matrices.specs.declared.LuAnswer.{LuAnswer}
@@ -17,7 +25,7 @@ use Rattle.jacobi.specs.Entry.{JacobiLeft, jacobiAnswered}
 use Rattle.jacobi.specs.Answer.{outcome}
 use Rattle.jacobi.specs.declared.JacobiAnswer.{JacobiAnswer}
 use Rattle.jacobi.specs.declared.JacobiAnswer.the-variants as jacobi
-use Rattle.exports.specs.Numbered.{swapsOrColumn, luNumbered, solveNumbered, jacobiNumbered}
+use Rattle.exports.specs.Numbered.{swapsOrColumn, luNumbered, solveNumbered, determinantNumbered, hyperDualDeterminantNumbered, jacobiNumbered}
 
 -- the answer is k, and the entry left l: what crosses is l's
 pub crossed : {A L T : Type 0} (reading : A → L) (cross : L → T) (answer k : A) (l : L) → reading answer ≡ l → answer ≡ k → cross (reading k) ≡ cross l
@@ -52,3 +60,24 @@ pub jacobi-refused : (before k number : ℕ) (values vectors : List Float) (answ
 jacobi-refused before k number values vectors answer l told read promise =
     ap (λ (x : ℕ). (x, (before, (values, vectors)))) (read ∙ ap (λ (r : JacobiAnswer). numberOf (outcome r)) told)
     ∙ crossed (λ (r : JacobiAnswer). jacobiAnswered (outcome r) values vectors) (jacobiNumbered before) answer (jacobi.Refused k) l promise told
+
+-- Jacobi done: with the sweeps
+pub jacobi-done : (before sweeps : ℕ) (values vectors : List Float) (answer : JacobiAnswer) (l : JacobiLeft) → answer ≡ jacobi.Done sweeps → jacobiAnswered (outcome answer) values vectors ≡ l
+    → (0, (sweeps, (values, vectors))) ≡ jacobiNumbered before l
+jacobi-done before sweeps values vectors answer l told promise =
+    crossed (λ (r : JacobiAnswer). jacobiAnswered (outcome r) values vectors) (jacobiNumbered before) answer (jacobi.Done sweeps) l promise told
+
+-- a determinant: its parts, or a number alone
+module _ (re eps : Float) (answer : DualAnswer) (l : Outcome Dual) (promise : dual.outcome answer ≡ l) where
+  pub determinant-written : (x : Dual) → answer ≡ value.Value x → (0, (x .re, x .eps)) ≡ determinantNumbered re eps l
+  determinant-written x told = crossed dual.outcome (determinantNumbered re eps) answer (value.Value x) l promise told
+
+  pub determinant-refused : (number : ℕ) → answer ≡ value.Refused number → (number, (re, eps)) ≡ determinantNumbered re eps l
+  determinant-refused number told = crossed dual.outcome (determinantNumbered re eps) answer (value.Refused number) l promise told
+
+module _ (re eps1 eps2 eps1eps2 : Float) (answer : HyperDualAnswer) (l : Outcome HyperDual) (promise : hyperdual.outcome answer ≡ l) where
+  pub hyper-determinant-written : (x : HyperDual) → answer ≡ hyper.Value x → (0, (x .re, (x .eps1, (x .eps2, x .eps1eps2)))) ≡ hyperDualDeterminantNumbered re eps1 eps2 eps1eps2 l
+  hyper-determinant-written x told = crossed hyperdual.outcome (hyperDualDeterminantNumbered re eps1 eps2 eps1eps2) answer (hyper.Value x) l promise told
+
+  pub hyper-determinant-refused : (number : ℕ) → answer ≡ hyper.Refused number → (number, (re, (eps1, (eps2, eps1eps2)))) ≡ hyperDualDeterminantNumbered re eps1 eps2 eps1eps2 l
+  hyper-determinant-refused number told = crossed hyperdual.outcome (hyperDualDeterminantNumbered re eps1 eps2 eps1eps2) answer (hyper.Refused number) l promise told

@@ -8,12 +8,13 @@ use Rattle.jacobi.proofs.Slopes.{jacobi-refused}
 use Rattle.jacobi.proofs.jacobi_eigenvalue.Statement.{statement}
 use Rattle.jacobi.proofs.jacobi_eigenvalue.Tie as tie
 
--- a call that is not refused may run, by the scratch that n asks
+-- a call that is not refused may run: n was found to be at most 8
 run-up-to-8-requires : tie.Need-run-up-to-8-requires
 run-up-to-8-requires c κs =
     let at = c .before .before .before in
     jacobi-allowed _ _ _ (now (at .before .before .before .before .before .args .values)) _ _ (at .before .refusal .ensures) (at .if1 .left) 8 (c .before .before .if2 .taken)
 
+-- and else is at most 32
 run-up-to-32-requires : tie.Need-run-up-to-32-requires
 run-up-to-32-requires c κs =
     let at = c .before .before .before in

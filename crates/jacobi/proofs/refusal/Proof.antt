@@ -6,21 +6,14 @@ use Rattle.jacobi.proofs.Answered.{too-large, is-empty, wrong-matrix, w
 use Rattle.jacobi.proofs.refusal.Statement.{statement}
 use Rattle.jacobi.proofs.refusal.Tie as tie
 
--- no product of an n that is not too large is
-mul-full : tie.Need-mul-full
-mul-full c = omega (arith, few 2 _ (c .before .if1 .left) (omega arith))
-
-mul-full-2 : tie.Need-mul-full-2
-mul-full-2 c = omega (arith, few 2 _ (c .before .if1 .left) (omega arith))
-
 pub refusal-spec : {M : Type 1} → statement M
 refusal-spec =
     tie.close
     (tie.spec
     (λ c. search (needs, too-large))
     (λ c. search (needs, is-empty))
-    mul-full
-    mul-full-2
+    -- n is at most 32: no product is large
+    (λ c. omega (arith, few 2 _ (c .before .if1 .left) (omega arith))) (λ c. omega (arith, few 2 _ (c .before .if1 .left) (omega arith)))
     (λ c. search (needs, wrong-matrix))
     (λ c. search needs)
     (λ c. search (needs, wrong-values))
