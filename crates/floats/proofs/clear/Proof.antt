@@ -1,3 +1,4 @@
+-- The loop keeps: below i there are zeros. Assumes nothing.
 use mathlib.Core.Path.{_≡_, refl, sym, _∙_}
 use Prim.Native.Nat.{_-_}
 use denote.Ref.{now}
@@ -15,14 +16,17 @@ Inv-loop to₀ i₀ to i = (length to ≡ length to₀) × Filled nan (λ k. zer
 abbrev μ-loop : tie.MeasureT-loop
 μ-loop to₀ i₀ to i = length to₀ - i
 
+-- nothing is below 0
 loop-holds : tie.Need-loop-holds Inv-loop μ-loop
 loop-holds c = (refl, λ k h. absurd (omega arith))
 
+-- one more zero
 loop-again : tie.Need-loop-again Inv-loop μ-loop
 loop-again c =
     let at = c .before in
     (simp length-set (at .loop .inv .0), filled-more nan (λ k. zero) (at .loop .to) (at .loop .i) (c .loop-test .taken) (at .loop .inv .1))
 
+-- i has passed every place
 returns : tie.Need-returns Inv-loop μ-loop
 returns c =
     let at = c .before in

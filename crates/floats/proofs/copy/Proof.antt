@@ -1,3 +1,4 @@
+-- The loop keeps: below i there is what `from` has. Assumes nothing.
 use mathlib.Core.Path.{_≡_, refl}
 use Prim.Native.Nat.{_-_}
 use denote.Ref.{now}
@@ -14,14 +15,17 @@ Inv-loop from to₀ i₀ to i = (length to ≡ length to₀) × Filled nan (λ k
 abbrev μ-loop : tie.MeasureT-loop
 μ-loop from to₀ i₀ to i = length to₀ - i
 
+-- nothing is below 0
 loop-holds : tie.Need-loop-holds Inv-loop μ-loop
 loop-holds c = (refl, λ k h. absurd (omega arith))
 
+-- one more float of `from`
 loop-again : tie.Need-loop-again Inv-loop μ-loop
 loop-again c =
     let at = c .before .before in
     (simp length-set (at .loop .inv .0), filled-more nan (λ k. getD (now (at .before .args .from)) k nan) (at .loop .to) (at .loop .i) (c .before .loop-test .taken) (at .loop .inv .1))
 
+-- i has passed every place
 returns : tie.Need-returns Inv-loop μ-loop
 returns c =
     let at = c .before in

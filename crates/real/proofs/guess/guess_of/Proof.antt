@@ -1,3 +1,4 @@
+-- Each product of Goldschmidt's step fits in 64 bits: that is all that is promised of the guess. Assumes nothing.
 use borrow.Author.Needs.{needs}
 use Prim.Native.Nat.{_+_, _-_, _*_, _/_}
 use native.Mathlib.Omega.{arith}
@@ -23,38 +24,17 @@ At c =
 at : (c : lts.After-inverse-root (inverse-root-reads.Asked, inverse-root-reads.Learnt) reads.Pre reads.Post) → At c
 at c = step-below _ _ _ _ _ (omega arith) (omega arith) (c .inverse-root .ensures) (omega arith) (omega arith)
 
-mul-scaled-2 : tie.Need-mul-scaled-2
-mul-scaled-2 c = let f = at c in omega arith
-
-mul-inverse-2 : tie.Need-mul-inverse-2
-mul-inverse-2 c = let f = at c in omega arith
-
-mul-root : tie.Need-mul-root
-mul-root c = let f = at c in omega arith
-
-mul-step : tie.Need-mul-step
-mul-step c = let f = at c in omega arith
-
-sub-step : tie.Need-sub-step
-sub-step c = let f = at c in omega arith
-
-mul-t11 : tie.Need-mul-t11
-mul-t11 c = let f = at c in omega arith
-
-mul-t10 : tie.Need-mul-t10
-mul-t10 c = let f = at c in omega arith
-
 pub guess-of-spec : {M : Type 1} → statement M
 guess-of-spec =
     tie.close
     (tie.spec
     (λ c κs. search needs) (λ c. search needs) (λ c. search needs) (λ c. search needs)
-    mul-scaled-2
+    (λ c. let f = at c in omega arith)
     (λ c. search needs) (λ c. search needs)
-    mul-inverse-2
-    mul-root
-    mul-step
-    sub-step
-    mul-t11
-    mul-t10
+    (λ c. let f = at c in omega arith)
+    (λ c. let f = at c in omega arith)
+    (λ c. let f = at c in omega arith)
+    (λ c. let f = at c in omega arith)
+    (λ c. let f = at c in omega arith)
+    (λ c. let f = at c in omega arith)
     (λ c. search needs))

@@ -1,9 +1,11 @@
+-- What the last step settled is nearest; where it settled nothing the exact way is taken. Assumes nothing.
 use borrow.Author.Needs.{needs}
 use native.Mathlib.Omega.{arith}
 use Rattle.real.proofs.Rounded.{nearest-short}
 use Rattle.real.proofs.root.nearest_root.Statement.{statement}
 use Rattle.real.proofs.root.nearest_root.Tie as tie
 
+-- settled: nearest, and short of a carry
 returns-2 : tie.Need-returns-2
 returns-2 c =
     let at = c .before in

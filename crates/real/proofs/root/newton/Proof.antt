@@ -1,4 +1,4 @@
--- `real::root::newton` meets its contract. The loop's invariant: a is below the square of s + 1, and s is at most 2 ^ 28. The measure is s. Assumes nothing.
+-- Newton's steps fall from above and never pass the root: a is below the square of s + 1 throughout, and s falls. Assumes nothing.
 use Prim.Native.Nat.{_+_, _*_, _^_, _≤_, _<_}
 use native.Mathlib.Nat.{le-trans, le-of-lt, mul-le-mul, div-le-self}
 use native.Mathlib.Omega.{arith}
@@ -16,18 +16,23 @@ abbrev μ-loop : tie.MeasureT-loop
 loop-holds : tie.Need-loop-holds Inv-loop μ-loop
 loop-holds c = (newton-above (c .args .a) 94906266 (omega arith), omega arith)
 
+-- s is at most 2 ^ 28, so its square fits
 mul-loop : tie.Need-mul-loop Inv-loop μ-loop
 mul-loop c = omega (arith, mul-le-mul (c .loop .inv .1) (c .loop .inv .1))
 
+-- a is below the square of s, so s is not 0
 div-s : tie.Need-div-s Inv-loop μ-loop
 div-s c = square-pos (c .before .before .args .a) (c .before .loop .s) (c .loop-test .taken)
 
+-- a quotient is at most a
 add-s-2 : tie.Need-add-s-2 Inv-loop μ-loop
 add-s-2 c = omega (arith, div-le-self (c .before .before .args .a) (c .before .loop .s))
 
+-- a step from above the root falls
 loop-less : tie.Need-loop-less Inv-loop μ-loop
 loop-less c = newton-below (c .before .before .args .a) (c .before .loop .s) (c .loop-test .taken)
 
+-- and lands above it again
 loop-again : tie.Need-loop-again Inv-loop μ-loop
 loop-again c =
     let a = c .before .before .args .a in
@@ -35,6 +40,7 @@ loop-again c =
     let above = c .loop-test .taken in
     (newton-above a s (square-pos a s above), le-trans (le-of-lt (newton-below a s above)) (c .before .loop .inv .1))
 
+-- the test that ends the loop is the promise's first half
 returns : tie.Need-returns Inv-loop μ-loop
 returns c = (c .loop-test .left, c .before .loop .inv .0)
 

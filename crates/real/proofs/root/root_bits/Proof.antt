@@ -1,8 +1,10 @@
+-- The significand scaled, its exponent made even, the nearest whole root of it: together the pattern of the rounded root. Assumes nothing.
 use borrow.Author.Needs.{needs}
 use Rattle.real.proofs.Patterns.{root-pattern}
 use Rattle.real.proofs.root.root_bits.Statement.{statement}
 use Rattle.real.proofs.root.root_bits.Tie as tie
 
+-- the three steps' promises are the definition of the root over patterns
 returns : tie.Need-returns
 returns c =
     let near = c .before .nearest-root in

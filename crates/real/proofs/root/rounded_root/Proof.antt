@@ -1,3 +1,4 @@
+-- What the whole root leaves decides: more than the root itself and the next is nearer, else the root stays. Assumes nothing.
 use borrow.Author.Needs.{needs}
 use Prim.Native.Nat.{_*_, _^_, _<_}
 use native.Mathlib.Omega.{arith}
@@ -5,6 +6,7 @@ use Rattle.real.proofs.Rounded.{moves, stays, no-carry}
 use Rattle.real.proofs.root.rounded_root.Statement.{statement}
 use Rattle.real.proofs.root.rounded_root.Tie as tie
 
+-- the rest is more than q: q + 1 is nearer, and does not carry
 returns : tie.Need-returns
 returns c =
     let at = c .before .before .before in
@@ -17,6 +19,7 @@ returns c =
     let short = no-carry a q rest (w .0) up (w .2) (at .before .pre .1) in
     (omega arith, omega arith, omega arith)
 
+-- the rest is at most q: q stays
 returns-2 : tie.Need-returns-2
 returns-2 c =
     let at = c .before .before in

@@ -1,3 +1,4 @@
+-- Newton's root of the upper half and one division give the root of the whole, or one more than it. Assumes nothing.
 use borrow.Author.Needs.{needs}
 use Prim.Native.Nat.{_*_, _/_, _%_, _-_}
 use native.Mathlib.Omega.{arith}
@@ -15,45 +16,11 @@ At c = let a = c .before .args .a in let s = c .newton .result in Halves a s (a 
 at : (c : lts.After-newton (newton-reads.Asked, newton-reads.Learnt) reads.Pre reads.Post) → At c
 at c = halves (c .before .args .a) (c .newton .result) (c .before .pre .0) (c .before .pre .1) (c .newton .ensures .0) (c .newton .ensures .1)
 
-mul-left-2 : tie.Need-mul-left-2
-mul-left-2 c = let f = at c in omega arith
-
-mul-twice : tie.Need-mul-twice
-mul-twice c = let f = at c in omega arith
-
-div-q : tie.Need-div-q
-div-q c = let f = at c in omega arith
-
-rem-over : tie.Need-rem-over
-rem-over c = let f = at c in omega arith
-
-mul-over : tie.Need-mul-over
-mul-over c = let f = at c in omega arith
-
-mul-square : tie.Need-mul-square
-mul-square c = let f = at c in omega arith
-
-mul-root : tie.Need-mul-root
-mul-root c = let f = at c in omega arith
-
-add-root : tie.Need-add-root
-add-root c = let f = at c in omega arith
-
-sub-t14 : tie.Need-sub-t14
-sub-t14 c = let f = at (c .before) in omega arith
-
-mul-t15 : tie.Need-mul-t15
-mul-t15 c = let f = at (c .before) in omega arith
-
-sub-t16 : tie.Need-sub-t16
-sub-t16 c = let f = at (c .before) in omega arith
-
-sub-t18 : tie.Need-sub-t18
-sub-t18 c = let f = at (c .before) in omega arith
-
+-- the quotient's square fits: it is the root
 returns : tie.Need-returns
 returns c = fits-root (c .before .before .args .a) (c .before .newton .result) _ _ _ (c .before .before .pre .1) (at (c .before)) (c .if1 .taken)
 
+-- it does not: the root is one less
 returns-2 : tie.Need-returns-2
 returns-2 c = one-off (c .before .before .args .a) (c .before .newton .result) _ _ _ (c .before .before .pre .1) (at (c .before)) (c .if1 .left)
 
@@ -62,18 +29,18 @@ whole-root-spec =
     tie.close
     (tie.spec
     (λ c κs. search needs) (λ c. search needs) (λ c. search needs)
-    mul-left-2
-    mul-twice
-    div-q
-    rem-over
-    mul-over
-    mul-square
-    mul-root
-    add-root
-    sub-t14
-    mul-t15
-    sub-t16
+    (λ c. let f = at c in omega arith)
+    (λ c. let f = at c in omega arith)
+    (λ c. let f = at c in omega arith)
+    (λ c. let f = at c in omega arith)
+    (λ c. let f = at c in omega arith)
+    (λ c. let f = at c in omega arith)
+    (λ c. let f = at c in omega arith)
+    (λ c. let f = at c in omega arith)
+    (λ c. let f = at (c .before) in omega arith)
+    (λ c. let f = at (c .before) in omega arith)
+    (λ c. let f = at (c .before) in omega arith)
     (λ c. search needs)
-    sub-t18
+    (λ c. let f = at (c .before) in omega arith)
     returns
     returns-2)
