@@ -8,7 +8,7 @@ use native.Mathlib.Omega.{arith}
 use lib.Dec.{ltb, eqb}
 use lib.ListN.{length, take, replicate}
 use lib.Ieee.{Float}
-use borrow.Author.Tests.{lt-ltb, le-ltb, ltb-false, eqb-true, eq-eqb, ne-eqb, not-true, not-false}
+use borrow.Author.Tests.{ltb-false, eqb-true, eq-eqb, ne-eqb, not-true, not-false}
 use Rattle.real.specs.Operations as float
 use Rattle.refusals.specs.Number as refusal
 use Rattle.refusals.specs.Largest as largest
@@ -40,27 +40,7 @@ take-replicate zero n x h = refl
 take-replicate (suc k) zero x h = absurd (omega arith)
 take-replicate {A} (suc k) (suc n) x h = ap (λ (l : List A). x ∷ l) (take-replicate k n x (omega arith))
 
--- ---- the number of a first line, by its tests
-pub lu-too-large : (n : ℕ) → largest.n < n → refusal.tooLarge ≡ luLineRefusal n
-lu-too-large n h = rw (lt-ltb largest.n n h)
-
-pub lu-passes : (n : ℕ) → n ≤ largest.n → 0 ≡ luLineRefusal n
-lu-passes n h = rw (le-ltb largest.n n h)
-
-module _ (n limit : ℕ) where
-  pub eig-too-large : largest.n < n → refusal.tooLarge ≡ eigLineRefusal n limit
-  eig-too-large h = rw (lt-ltb largest.n n h)
-
-  pub eig-empty : n ≡ 0 → refusal.empty ≡ eigLineRefusal n limit
-  eig-empty e = rw e
-
-  pub eig-limit : n ≤ largest.n → (n ≡ 0 → ⊥) → largest.limit < limit → refusal.limitTooLarge ≡ eigLineRefusal n limit
-  eig-limit h z g = rw (le-ltb largest.n n h, ne-eqb n 0 z, lt-ltb largest.limit limit g)
-
-  pub eig-passes : n ≤ largest.n → (n ≡ 0 → ⊥) → limit ≤ largest.limit → 0 ≡ eigLineRefusal n limit
-  eig-passes h z g = rw (le-ltb largest.n n h, ne-eqb n 0 z, le-ltb largest.limit limit g)
-
--- and of a request, by its case
+-- ---- the number of a request, by its case
 module _ (q : Request) (number : ℕ) where
   pub refusal-of-lu : (n start : ℕ) → q ≡ Lu n start → number ≡ luLineRefusal n → number ≡ lineRefusal q
   refusal-of-lu n start e g = rw e g

@@ -24,9 +24,9 @@ const WORD_DIGITS: usize = 16;
 const WORD_BYTES: usize = 17;
 
 // The floats of the largest matrix, and of its eigenvalues.
-const MOST_FLOATS: usize = 2048;
+const MOST_FLOATS: usize = refusals::LARGEST_N * MOST_VALUES;
 
-const MOST_VALUES: usize = 64;
+const MOST_VALUES: usize = refusals::LARGEST_N * 2;
 
 // What the first line asks, and where the matrix starts.
 enum Request {

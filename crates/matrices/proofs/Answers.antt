@@ -8,6 +8,7 @@ use lib.Dec.{ltb, eqb}
 use lib.ListN.{length, replicate}
 use lib.Ieee.{Float}
 use borrow.Author.Tests.{le-ltb, ltb-false, eqb-true, eq-eqb, ne-eqb}
+use Rattle.refusals.specs.Number as refusal
 use Rattle.real.specs.Operations as float
 use Rattle.algebra.specs.Algebra.{Algebra, RealParts, reals}
 use Rattle.algebra.specs.Flat.{Layout, Lawful, Agrees, realParts, decode, encode}
@@ -156,8 +157,8 @@ module _ {R : Type 0} (A : Algebra R) (L : Layout R) (W : Lawful L) (n : ℕ) (r
   pub finish-done : (swaps : ℕ) → r ≡ going (decode L f) p swaps → length f ≡ n * n * L .width → luAnswered (value swaps) 0 f p ≡ luFinish A L n r
   finish-done swaps e h = rw e (ap (λ (l : List Float). luAnswered (value swaps) 0 l p) (sym (encode-decode L W f (n * n) h)))
 
-  pub finish-singular : (c : ℕ) → r ≡ singular c → f ≡ replicate (n * n * L .width) float.zero → p ≡ replicate n 0 → luAnswered (refused 6) c f p ≡ luFinish A L n r
-  finish-singular c e ef ep = rw e (λ i. luAnswered (refused 6) c (ef i) (ep i))
+  pub finish-singular : (c : ℕ) → r ≡ singular c → f ≡ replicate (n * n * L .width) float.zero → p ≡ replicate n 0 → luAnswered (refused refusal.singular) c f p ≡ luFinish A L n r
+  finish-singular c e ef ep = rw e (λ i. luAnswered (refused refusal.singular) c (ef i) (ep i))
 
 -- ---- what LU leaves when it is done
 
@@ -209,7 +210,7 @@ module _ {R : Type 0} (A : Algebra R) (L : Layout R) (W : Lawful L) (G : Agrees 
 
   seenRun : Run Float → LuLeft
   seenRun (going a p swaps) = luAnswered (value swaps) 0 a p
-  seenRun (singular c) = luAnswered (refused 6) c (realParts (L .width) (replicate (n * n * L .width) float.zero)) (replicate n 0)
+  seenRun (singular c) = luAnswered (refused refusal.singular) c (realParts (L .width) (replicate (n * n * L .width) float.zero)) (replicate n 0)
 
   finish-seen : (r : Run R) → seen (luFinish A L n r) ≡ seenRun (mapRun (map (A .re)) r)
   unfolding seen seenRun

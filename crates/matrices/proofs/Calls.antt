@@ -15,6 +15,7 @@ use contract.Lifetimes.{Lfts}
 use denote.RattleType.{RattleType}
 use denote.Ref.{now}
 use denote.Triple.Clauses.{Lasts, atExit}
+use Rattle.refusals.specs.Number as refusal
 use Rattle.real.specs.Operations as float
 use Rattle.real.proofs.Only.{Only}
 use Rattle.algebra.specs.Algebra.{Algebra}
@@ -116,7 +117,7 @@ module _ (r : RK 3) (told : (κs : Lfts 3) → resT r κs .Denot → Outcome ℕ
   abbrev pub LuZeros : ℕ → Out 3 luParameters r → Type 0
   LuZeros w post =
       (κs : Lfts 3) (a : Dens κs luParameters) (x : resT r κs .Denot) (v : Lasts (endedOf 3 luParameters r) κs a) →
-      post κs a x (atExit (endedOf 3 luParameters r) κs a v) → told κs x ≡ refused 6 →
+      post κs a x (atExit (endedOf 3 luParameters r) κs a v) → told κs x ≡ refused refusal.singular →
       (v .1 .1 .0 ≡ replicate (a .0 * a .0 * w) float.zero) × (v .1 .1 .1 .0 ≡ replicate (a .0) 0)
 
   module _ {R : Type 0} {A : Algebra R} {L : Layout R} (Q : Laws A L) where

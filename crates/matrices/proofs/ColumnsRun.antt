@@ -5,6 +5,7 @@ use mathlib.Core.List.{List}
 use native.Mathlib.Omega.{arith}
 use lib.ListN.{length, replicate}
 use lib.Ieee.{Float}
+use Rattle.refusals.specs.Number as refusal
 use Rattle.real.specs.Operations as float
 use Rattle.algebra.specs.Algebra.{Algebra}
 use Rattle.algebra.specs.Flat.{Layout, decode}
@@ -93,7 +94,7 @@ module _ {R : Type 0} {A : Algebra R} {L : Layout R} (Q : Laws A L) where
     factor-done swaps g = finish-done A L (Q .lawful) n (luOf A n (decode L a)) m p swaps (whole ∙ ap (λ (s : AfterColumn). runAfter s (decode L m) p) g) full
 
     pub factor-singular : (c : ℕ) (g : List Float) (z : List ℕ) → r ≡ Singular c → g ≡ replicate (length m) float.zero → z ≡ replicate (length p) 0
-        → luAnswered (refused 6) c g z ≡ luFinish A L n (luOf A n (decode L a))
+        → luAnswered (refused refusal.singular) c g z ≡ luFinish A L n (luOf A n (decode L a))
     factor-singular c g z e eg ez =
         finish-singular A L (Q .lawful) n (luOf A n (decode L a)) g z c (whole ∙ ap (λ (s : AfterColumn). runAfter s (decode L m) p) e)
         (eg ∙ ap (λ (k : ℕ). replicate k float.zero) full) (ez ∙ ap (λ (k : ℕ). replicate k 0) (order-size ∙ count-size ∙ long))

@@ -7,6 +7,7 @@ use native.Mathlib.Omega.{arith}
 use lib.ListN.{length, getD}
 use lib.Ieee.{Float}
 use borrow.Author.Tests.{le-ltb, eq-eqb, ne-eqb}
+use Rattle.refusals.specs.Number as refusal
 use Rattle.algebra.specs.Algebra.{Algebra, zeroOf, oneOf}
 use Rattle.algebra.specs.Flat.{Layout, decode}
 use Rattle.algebra.specs.Loop.{upto}
@@ -68,7 +69,7 @@ module _ {R : Type 0} {A : Algebra R} {L : Layout R} (Q : Laws A L) where
   right n a o s q long = rw (le-ltb 32 n (q .small), eq-eqb _ _ (q .full), eq-eqb _ _ long) refl
 
   pub walk-stop : (n : ℕ) (a : List Float) (o : List ℕ) (s : ℕ) (m : Marks) (x : R) (i : ℕ) → Walking n a o m x i → i < n → Square (L .width) n a → length o ≡ n → n ≤ getD o i 0
-      → refused 7 ≡ determinantLeft A L n a o s
+      → refused refusal.notAnOrder ≡ determinantLeft A L n a o s
   walk-stop n a o s m x i w h q long past =
       determinant-refused A L n a o s 7 (sym (right n a o s q long ∙ ap (λ (t : Bool). cond t (swapsRefusal o s) 7) (mark-stop n o m i (w .marks) (omega arith) past))) (λ z. omega arith)
 

@@ -21,7 +21,6 @@ pub mod RowsOfRecords
 pub mod Inner
 pub mod Starts
 pub mod Answers
-mod RefusalTests
 -- beside demand 3, of what the entries leave: previous contents and refusals, and that what LU left is accepted
 mod PreviousContents
 mod AfterLu

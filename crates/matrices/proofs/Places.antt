@@ -109,3 +109,7 @@ strided-place w n stride base i l l′ s e h = omega (arith, s .inside i h, e)
 
 pub whole-kept : (w n : ℕ) (l l′ : List Float) → length l ≡ n * w → length l′ ≡ length l → Strided w n 1 0 l′
 whole-kept w n l l′ e f = strided-whole w n l′ (f ∙ e)
+
+-- a square matrix in floats of the same length
+pub square-kept : (w n : ℕ) (l l′ : List Float) → Square w n l → length l′ ≡ length l → Square w n l′
+square-kept w n l l′ s e = record { small = s .small; some = s .some; narrow = s .narrow; full = e ∙ s .full }

@@ -7,6 +7,7 @@ use native.Mathlib.Omega.{arith}
 use lib.Dec.{ltb, eqb}
 use lib.ListN.{length, replicate}
 use lib.Ieee.{Float}
+use Rattle.refusals.specs.Number as refusal
 use Rattle.real.specs.Operations as float
 use Rattle.algebra.specs.Algebra.{Algebra}
 use Rattle.algebra.specs.Flat.{Layout, decode}
@@ -44,13 +45,13 @@ module _ {R : Type 0} (A : Algebra R) (L : Layout R) (n : ℕ) where
       finish (singular c) e = absurd (h (sym (number-one e)))
 
   -- refused 6
-  pub lu-zero : (a f : List Float) (p : List ℕ) → luLeft A L n a f p .answer ≡ refused 6
+  pub lu-zero : (a f : List Float) (p : List ℕ) → luLeft A L n a f p .answer ≡ refused refusal.singular
       → (luLeft A L n a f p .factors ≡ replicate (n * n * L .width) float.zero) × (luLeft A L n a f p .order ≡ replicate n 0)
   lu-zero a f p =
-      lu-cases A L n a f p (λ l. l .answer ≡ refused 6 → (l .factors ≡ replicate (n * n * L .width) float.zero) × (l .order ≡ replicate n 0))
+      lu-cases A L n a f p (λ l. l .answer ≡ refused refusal.singular → (l .factors ≡ replicate (n * n * L .width) float.zero) × (l .order ≡ replicate n 0))
       (λ e. absurd (let z = number-one e in omega arith)) (λ e. absurd (let z = number-one e in omega arith)) (λ t. finish (luOf A n (decode L a)))
     where
-      finish : (r : Run R) → luFinish A L n r .answer ≡ refused 6 → (luFinish A L n r .factors ≡ replicate (n * n * L .width) float.zero) × (luFinish A L n r .order ≡ replicate n 0)
+      finish : (r : Run R) → luFinish A L n r .answer ≡ refused refusal.singular → (luFinish A L n r .factors ≡ replicate (n * n * L .width) float.zero) × (luFinish A L n r .order ≡ replicate n 0)
       finish (going m q k) e = absurd (not-both e)
       finish (singular c) e = (refl, refl)
 

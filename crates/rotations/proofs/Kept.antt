@@ -4,11 +4,8 @@ use mathlib.Core.Path.{_≡_, _∙_}
 use mathlib.Core.List.{List}
 use lib.ListN.{length}
 use lib.Ieee.{Float}
-use Rattle.matrices.specs.Matrix.{Square}
+use Rattle.matrices.proofs.Places.{square-kept}
 use Rattle.rotations.specs.Buffers.{Sized}
-
-pub square-kept : (w n : ℕ) (l l′ : List Float) → Square w n l → length l′ ≡ length l → Square w n l′
-square-kept w n l l′ s e = record { small = s .small; some = s .some; narrow = s .narrow; full = e ∙ s .full }
 
 pub sized-kept : (n : ℕ) (a v d zw a′ v′ d′ zw′ : List Float) → Sized n a v d zw → length a′ ≡ length a → length v′ ≡ length v → length d′ ≡ length d → length zw′ ≡ length zw → Sized n a′ v′ d′ zw′
 sized-kept n a v d zw a′ v′ d′ zw′ s ea ev ed ez =

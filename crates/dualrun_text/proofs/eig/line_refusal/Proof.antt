@@ -1,6 +1,6 @@
 -- By the three tests, each after those before it.
 use borrow.Author.Needs.{needs}
-use Rattle.dualrun_text.proofs.Commands.{eig-too-large, eig-empty, eig-limit, eig-passes}
+use Rattle.refusals.proofs.FirstRefusal.{tests}
 use Rattle.dualrun_text.proofs.eig.line_refusal.Statement.{statement}
 use Rattle.dualrun_text.proofs.eig.line_refusal.Tie as tie
 
@@ -8,7 +8,7 @@ pub line-refusal-spec : {M : Type 1} → statement M
 line-refusal-spec =
     tie.close
     (tie.spec
-    (λ c. search (needs, eig-too-large))
-    (λ c. search (needs, eig-empty))
-    (λ c. search (needs, eig-limit))
-    (λ c. search (needs, eig-passes)))
+    (λ c. search (needs, tests))
+    (λ c. search (needs, tests))
+    (λ c. search (needs, tests))
+    (λ c. search (needs, tests)))

@@ -1,6 +1,6 @@
 -- By the test of n.
 use borrow.Author.Needs.{needs}
-use Rattle.dualrun_text.proofs.Commands.{lu-too-large, lu-passes}
+use Rattle.refusals.proofs.FirstRefusal.{tests}
 use Rattle.dualrun_text.proofs.lu.line_refusal.Statement.{statement}
 use Rattle.dualrun_text.proofs.lu.line_refusal.Tie as tie
 
@@ -8,5 +8,5 @@ pub line-refusal-spec : {M : Type 1} → statement M
 line-refusal-spec =
     tie.close
     (tie.spec
-    (λ c. search (needs, lu-too-large))
-    (λ c. search (needs, lu-passes)))
+    (λ c. search (needs, tests))
+    (λ c. search (needs, tests)))

@@ -4,9 +4,8 @@ use Prim.Native.Nat.{_-_}
 use denote.Ref.{now}
 use Rattle.dual.specs.Rules.{dualAlgebra, dualRecords}
 use Rattle.dual.proofs.Flat.{dual-laws}
-use Rattle.matrices.proofs.Places.{Inside, inside}
+use Rattle.matrices.proofs.Places.{Inside, inside, square-kept}
 use Rattle.matrices.proofs.Turns.{Running, run-turn, run-end}
-use Rattle.rotations.proofs.Kept.{square-kept}
 use Rattle.jacobi.specs.Sort.{exchangeInRow, exchangeColumns}
 use Rattle.jacobi.proofs.sort.exchange_columns.Statement.{statement}
 use Rattle.jacobi.proofs.sort.exchange_columns.Tie as tie

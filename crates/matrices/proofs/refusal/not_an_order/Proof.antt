@@ -1,6 +1,6 @@
 -- Each way out is a case of the definition's test.
 use borrow.Author.Needs.{needs}
-use Rattle.matrices.proofs.RefusalTests.{test-true, test-false}
+use Rattle.refusals.proofs.FirstRefusal.{test-true, test-false}
 use Rattle.matrices.proofs.refusal.not_an_order.Statement.{statement}
 use Rattle.matrices.proofs.refusal.not_an_order.Tie as tie
 

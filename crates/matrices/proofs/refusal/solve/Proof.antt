@@ -1,7 +1,7 @@
 -- The tests in their order are the definition's: each way out is one of their laws.
 use borrow.Author.Needs.{needs}
 use native.Mathlib.Omega.{arith}
-use Rattle.matrices.proofs.RefusalTests.{lengths}
+use Rattle.refusals.proofs.FirstRefusal.{tests}
 use Rattle.matrices.proofs.Places.{few}
 use Rattle.matrices.proofs.refusal.solve.Statement.{statement}
 use Rattle.matrices.proofs.refusal.solve.Tie as tie
@@ -10,14 +10,14 @@ pub solve-spec : {M : Type 1} → statement M
 solve-spec =
     tie.close
     (tie.spec
-    (λ c. search (needs, lengths))
+    (λ c. search (needs, tests))
     -- n is at most 32 and a record's width at most 8: no product is large
     (λ c. omega (arith, few _ _ (c .if1 .left) (c .before .before .pre)))
     (λ c. omega (arith, few _ _ (c .if1 .left) (c .before .before .pre)))
-    (λ c. search (needs, lengths)) (λ c. search (needs, lengths))
+    (λ c. search (needs, tests)) (λ c. search (needs, tests))
     (λ c. omega (arith, few _ _ (c .before .before .if1 .left) (c .before .before .before .before .pre)))
-    (λ c. search (needs, lengths))
+    (λ c. search (needs, tests))
     (λ c. omega (arith, few _ _ (c .before .before .before .if1 .left) (c .before .before .before .before .before .pre)))
-    (λ c. search (needs, lengths))
+    (λ c. search (needs, tests))
     (λ c κs. search needs)
-    (λ c. search (needs, lengths) depth 7))
+    (λ c. search (needs, tests) depth 7))

@@ -2,8 +2,7 @@
 use borrow.Author.Needs.{needs}
 use denote.Ref.{now}
 use Rattle.matrices.specs.Matrix.{store}
-use Rattle.matrices.proofs.Places.{Inside, inside}
-use Rattle.rotations.proofs.Kept.{square-kept}
+use Rattle.matrices.proofs.Places.{Inside, inside, square-kept}
 use Rattle.rotations.proofs.cells.put.Statement.{statement}
 use Rattle.rotations.proofs.cells.put.Tie as tie
 

@@ -1,0 +1,2 @@
+-- Laws for whatever refuses. Assumes nothing.
+pub mod FirstRefusal
