@@ -1,4 +1,4 @@
--- The dualRecords that the lent floats of a sweep hold. Definitions only.
+-- The records that the lent floats of a sweep hold. Definitions only.
 use Prim.Native.Nat.{ℕ, _*_}
 use mathlib.Core.Path.{_≡_}
 use mathlib.Core.List.{List}
@@ -10,7 +10,7 @@ use Rattle.matrices.specs.Matrix.{Square}
 use Rattle.rotations.specs.declared.Angle as code
 use Rattle.rotations.specs.Rotation.{Angle, angle, Work, work}
 
--- the four buffers of a sweep are as long as n by n and n dualRecords ask
+-- the four buffers of a sweep are as long as n by n and n records ask
 pub record Sized (n : ℕ) (a v d zw : List Float) : Type 0 where
   pub matrix : Square 2 n a
   pub vectors : Square 2 n v

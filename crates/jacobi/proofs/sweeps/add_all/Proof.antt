@@ -19,7 +19,7 @@ loop-holds : tie.Need-loop-holds Inv-loop μ-loop
 unfolding addAll
 loop-holds c = search needs
 
--- a turn writes the sum of the two dualRecords that it read
+-- a turn writes the sum of the two records that it read
 loop-again : tie.Need-loop-again Inv-loop μ-loop
 unfolding addItem
 loop-again c = run-turn dual-laws _ _ _ _ _ _ _ (c .before .before .before .before .before .before .before .before .before .loop .inv) (search needs) (search needs) (cc)
