@@ -9,6 +9,7 @@ use lib.ListN.{length}
 use lib.Ieee.{Float}
 use Rattle.real.specs.Sign.{signOf}
 use Rattle.real.specs.Operations as float
+use Rattle.refusals.specs.Number as refusal
 use Rattle.algebra.specs.Algebra.{Algebra, Keeps, zeroOf, oneOf, addFloat, subFloat, magnitude}
 use Rattle.algebra.specs.Loop.{upto}
 use Rattle.algebra.specs.Flat.{Layout, recordAt, recordCount, sumOf, productOf}
@@ -36,11 +37,11 @@ module _ {R S : Type 0} {A : Algebra R} {B : Algebra S} {h : R → S} (k : Keeps
     record-keeps p = rw (← wide) (made (λ i. _))
 
     outcome-keeps : (op : R → R → R) (op′ : S → S → S) (start : R) (start′ : S) → ((x y : R) → h (op x y) ≡ op′ (h x) (h y)) → h start ≡ start′
-        → mapOutcome h (cond (eqb (length l % L .width) 0) (value (upto 0 (recordCount L l) (λ p s. op s (recordAt L l p)) start)) (refused 2))
-        ≡ cond (eqb (length l % M .width) 0) (value (upto 0 (recordCount M l) (λ p s. op′ s (recordAt M l p)) start′)) (refused 2)
+        → mapOutcome h (cond (eqb (length l % L .width) 0) (value (upto 0 (recordCount L l) (λ p s. op s (recordAt L l p)) start)) (refused refusal.wrongLength))
+        ≡ cond (eqb (length l % M .width) 0) (value (upto 0 (recordCount M l) (λ p s. op′ s (recordAt M l p)) start′)) (refused refusal.wrongLength)
     outcome-keeps op op′ start start′ keeps from =
         go (eqb (length l % L .width) 0)
-        ∙ ap (λ (w : ℕ). cond (eqb (length l % w) 0) (value (upto 0 (length l / w) turn start′)) (refused 2)) wide
+        ∙ ap (λ (w : ℕ). cond (eqb (length l % w) 0) (value (upto 0 (length l / w) turn start′)) (refused refusal.wrongLength)) wide
       where
         turn : ℕ → S → S
         turn p s = op′ s (recordAt M l p)
@@ -50,7 +51,7 @@ module _ {R S : Type 0} {A : Algebra R} {B : Algebra S} {h : R → S} (k : Keeps
             upto-map h (λ p s. op s (recordAt L l p)) turn (λ p s. keeps s (recordAt L l p) ∙ ap (op′ (h s)) (record-keeps p)) 0 (recordCount L l) start
             ∙ ap (upto 0 (recordCount L l) turn) from
 
-        go : (b : Bool) → mapOutcome h (cond b (value (upto 0 (recordCount L l) (λ p s. op s (recordAt L l p)) start)) (refused 2)) ≡ cond b (value (upto 0 (recordCount L l) turn start′)) (refused 2)
+        go : (b : Bool) → mapOutcome h (cond b (value (upto 0 (recordCount L l) (λ p s. op s (recordAt L l p)) start)) (refused refusal.wrongLength)) ≡ cond b (value (upto 0 (recordCount L l) turn start′)) (refused refusal.wrongLength)
         go true = ap value all
         go false = refl
 

@@ -32,8 +32,8 @@ other-bits (negsuc n) k h = refl
 below : (a b : ℕ) → ltb a b ≡ false → b ≤ a
 below a b h = nltb→le a b (subst (λ (t : Bool). T (not t)) (sym h) tt)
 
--- neither below -1024 nor above 1024: what `Series::powi` asks
-pub in-range : (e : ℤ) → ltZ e largest.leastExponent ≡ false → ltZ largest.exponent e ≡ false → natAbs e ≤ 1024
+-- neither below the least nor above the largest: what `Series::powi` asks
+pub in-range : (e : ℤ) → ltZ e largest.leastExponent ≡ false → ltZ largest.exponent e ≡ false → natAbs e ≤ natAbs largest.exponent
 in-range (pos n) p q = below 1024 n q
 in-range (negsuc n) p q = omega (arith, below 1023 n p)
 

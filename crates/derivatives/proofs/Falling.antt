@@ -1,4 +1,4 @@
--- e (e - 1) and e (e - 1) (e - 2) fit an i32 for e from -1024 to 1024. Assumes nothing.
+-- e (e - 1) and e (e - 1) (e - 2) fit an i32 for each e that powi takes. Assumes nothing.
 use mathlib.Core.Path.{_≡_, refl}
 use mathlib.Core.Bool.{Bool, true, false, cond}
 use Prim.Native.Nat.{ℕ, zero, suc, _+_, _-_, _*_, _≤_, _<_, _^_}
@@ -10,6 +10,7 @@ use lib.Signed.{mag}
 use mir.Syntax.{w32}
 use mir.Val.{SFits, toZ, ofZ}
 use mir.ValLaws.{toZ-ofZ}
+use Rattle.refusals.specs.Largest as largest
 
 abs-neg : (n : ℕ) → natAbs (negℤ (pos n)) ≡ n
 abs-neg zero = refl
@@ -42,7 +43,7 @@ falling2 e = e *ℤ (e -ℤ pos 1)
 abbrev pub falling3 : ℤ → ℤ
 falling3 e = falling2 e *ℤ (e -ℤ pos 2)
 
-module _ (e : ℤ) (small : natAbs e ≤ 1024) where
+module _ (e : ℤ) (small : natAbs e ≤ natAbs largest.exponent) where
   one-less : natAbs (e -ℤ pos 1) ≤ 1025
   one-less = le-trans (abs-sub e 0) (omega arith)
 

@@ -3,6 +3,7 @@
 ghost use mathlib.Core.Path.{_≡_};
 ghost use Prim.Native.Nat.{_≤_};
 ghost use lib.IntN.{natAbs};
+ghost use Rattle.refusals.specs.Largest as largest;
 ghost use Rattle.derivatives.specs.Plan.{planOf, planPowi, planPowf, small};
 ghost use Rattle.derivatives.specs.Series.{recipSeries, powiSeries, powfSeries, sqrtSeries, cbrtSeries, expSeries, exp2Series, expM1Series, logarithmSeries, lnSeries, logSeries, log2Series, log10Series, ln1pSeries, sinSeries, cosSeries, asinSeries, acosSeries, atanSeries, sinhSeries, coshSeries, asinhSeries, acoshSeries, atanhSeries};
 
@@ -91,7 +92,7 @@ impl Series {
 
     // Behind the plan, which refuses exponents whose products would not fit.
     fn powi(re: f64, exp: i32, pow3: f64) -> Series
-        requires { ⌜ natAbs exp ≤ 1024 ⌝ }
+        requires { ⌜ natAbs exp ≤ natAbs largest.exponent ⌝ }
         ensures { λ r. ⌜ r ≡ powiSeries re exp pow3 ⌝ }
     {
         let f0 = pow3 * re * re * re;

@@ -13,7 +13,7 @@ use Rattle.algebra.specs.Outcome.{Outcome, value, refused}
 use Rattle.jacobi.specs.Sort.{Eigen, jacobiOf}
 
 -- the first refusal that applies, by its number; 0 where none does. A record has w floats; of the lent buffers the lengths are given.
--- 1: n above 32; 3: n = 0; 2: a lent length is not the one wanted; 4: a limit above 1,000
+-- 1: n above the largest; 3: n = 0; 2: a lent length is not the one wanted; 4: a limit above the largest
 abbrev pub jacobiRefusal : ℕ → ℕ → ℕ → ℕ → ℕ → ℕ → ℕ
 jacobiRefusal w n a limit values vectors =
     cond (ltb largest.n n) refusal.tooLarge

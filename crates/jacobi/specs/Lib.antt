@@ -2,6 +2,7 @@
 pub mod Sweeps
 pub mod Sort
 pub mod Entry
+pub mod Scratch
 pub mod Answer
 pub mod SameReals
 pub mod PreviousContents

@@ -12,6 +12,7 @@ ghost use Rattle.dual.specs.Rules.{dualAlgebra, dualLayout, dualRecords};
 ghost use Rattle.matrices.specs.Matrix.{Square};
 ghost use Rattle.jacobi.specs.Sort.{jacobiOf};
 ghost use Rattle.jacobi.specs.Entry.{jacobiRefusal, jacobiAnswered, jacobiLeft};
+ghost use Rattle.jacobi.specs.Scratch.{smallN};
 ghost use Rattle.jacobi.specs.Answer.{outcome, eigenOf};
 
 // The sweeps that did not stop at the threshold, or the number that the call is refused by.
@@ -36,6 +37,13 @@ impl JacobiAnswer {
 const LARGEST_ROW: usize = refusals::LARGEST_N * 2;
 
 const LARGEST_MATRIX: usize = refusals::LARGEST_N * LARGEST_ROW;
+
+// An n whose scratch is cleared in no time, and the floats of its row and of its matrix.
+const SMALL_N: usize = 8;
+
+const SMALL_ROW: usize = SMALL_N * 2;
+
+const SMALL_MATRIX: usize = SMALL_N * SMALL_ROW;
 
 // How the sweeps ended: their count, the rotations, and whether the threshold was zero at last.
 pub(crate) struct Ended {
@@ -100,20 +108,20 @@ fn run(
     e
 }
 
-// The run with a scratch for n up to 8, which is cleared in no time.
-fn run_up_to_8(n: usize, a: &[f64], limit: usize, values: &mut [f64], vectors: &mut [f64]) -> Ended
+// The run with a scratch for small n.
+fn run_small(n: usize, a: &[f64], limit: usize, values: &mut [f64], vectors: &mut [f64]) -> Ended
     requires { ⌜ Square 2 n (now a) ⌝ }
     requires { ⌜ Square 2 n (now vectors) ⌝ }
     requires { ⌜ length (now values) ≡ n * 2 ⌝ }
-    requires { ⌜ (0 < n) × (n ≤ 8) ⌝ }
+    requires { ⌜ (0 < n) × (n ≤ smallN) ⌝ }
     requires { ⌜ limit ≤ largest.limit ⌝ }
     ensures { λ r. ⌜ eigenOf (now (values .exit)) (now (vectors .exit)) r ≡ jacobiOf dualAlgebra n limit (dualRecords (now (a .entry))) ⌝ }
 {
     let full = n * n * 2;
     let row = n * 2;
-    let mut w = [0.0f64; 128];
-    let mut bw = [0.0f64; 16];
-    let mut zw = [0.0f64; 16];
+    let mut w = [0.0f64; SMALL_MATRIX];
+    let mut bw = [0.0f64; SMALL_ROW];
+    let mut zw = [0.0f64; SMALL_ROW];
     run(
         n,
         a,
@@ -127,7 +135,7 @@ fn run_up_to_8(n: usize, a: &[f64], limit: usize, values: &mut [f64], vectors: &
 }
 
 // The run with a scratch for every n.
-fn run_up_to_32(n: usize, a: &[f64], limit: usize, values: &mut [f64], vectors: &mut [f64]) -> Ended
+fn run_large(n: usize, a: &[f64], limit: usize, values: &mut [f64], vectors: &mut [f64]) -> Ended
     requires { ⌜ Square 2 n (now a) ⌝ }
     requires { ⌜ Square 2 n (now vectors) ⌝ }
     requires { ⌜ length (now values) ≡ n * 2 ⌝ }
@@ -167,10 +175,10 @@ pub fn jacobi_eigenvalue(
     if number != 0 {
         return JacobiAnswer::Refused { number };
     }
-    let e = if n <= 8 {
-        run_up_to_8(n, a, limit, values, vectors)
+    let e = if n <= SMALL_N {
+        run_small(n, a, limit, values, vectors)
     } else {
-        run_up_to_32(n, a, limit, values, vectors)
+        run_large(n, a, limit, values, vectors)
     };
     JacobiAnswer::Done { sweeps: e.sweeps }
 }

@@ -8,6 +8,7 @@ use lib.Ieee.{Float, eq}
 use lib.ListN.{length, getD, set, length-set}
 use borrow.Author.Tests.{le-ltb, eq-eqb}
 use Rattle.real.specs.Operations as float
+use Rattle.refusals.specs.Largest as largest
 use Rattle.algebra.specs.Algebra.{Algebra, zeroOf}
 use Rattle.algebra.specs.Flat.{Layout, Lawful, decode}
 use Rattle.algebra.specs.Outcome.{value}
@@ -74,10 +75,10 @@ module _ {R : Type 0} (A : Algebra R) (L : Layout R) (W : Lawful L) (n : ℕ) wh
 
 module _ (w n : ℕ) (order : List ℕ) (swaps : ℕ) (l : LeavesOrder n order swaps) where
   pub solve-accepts : (factors b x : ℕ) → factors ≡ n * n * w → b ≡ n * w → x ≡ n * w → solveRefusal w n factors order b x ≡ 0
-  solve-accepts f b x hf hb hx = rw (le-ltb 32 n (l .small), eq-eqb f (n * n * w) hf, eq-eqb (length order) n (l .order .size), eq-eqb b (n * w) hb, eq-eqb x (n * w) hx) (accepted-order n order swaps l .0)
+  solve-accepts f b x hf hb hx = rw (le-ltb largest.n n (l .small), eq-eqb f (n * n * w) hf, eq-eqb (length order) n (l .order .size), eq-eqb b (n * w) hb, eq-eqb x (n * w) hx) (accepted-order n order swaps l .0)
 
   pub inverse-accepts : (factors out : ℕ) → factors ≡ n * n * w → out ≡ n * n * w → inverseRefusal w n factors order out ≡ 0
-  inverse-accepts f x hf hx = rw (le-ltb 32 n (l .small), eq-eqb f (n * n * w) hf, eq-eqb (length order) n (l .order .size), eq-eqb x (n * n * w) hx) (accepted-order n order swaps l .0)
+  inverse-accepts f x hf hx = rw (le-ltb largest.n n (l .small), eq-eqb f (n * n * w) hf, eq-eqb (length order) n (l .order .size), eq-eqb x (n * n * w) hx) (accepted-order n order swaps l .0)
 
   pub determinant-accepts : (factors : ℕ) → factors ≡ n * n * w → determinantRefusal w n factors order swaps ≡ 0
-  determinant-accepts f hf = rw (le-ltb 32 n (l .small), eq-eqb f (n * n * w) hf, eq-eqb (length order) n (l .order .size), order-isOrder n order (l .order)) (accepted-order n order swaps l .1)
+  determinant-accepts f hf = rw (le-ltb largest.n n (l .small), eq-eqb f (n * n * w) hf, eq-eqb (length order) n (l .order .size), order-isOrder n order (l .order)) (accepted-order n order swaps l .1)

@@ -8,8 +8,9 @@ use lib.Dec.{ltb, eqb}
 use lib.ListN.{length, replicate}
 use lib.Ieee.{Float}
 use borrow.Author.Tests.{le-ltb, ltb-false, eqb-true, eq-eqb, ne-eqb}
-use Rattle.refusals.specs.Number as refusal
 use Rattle.real.specs.Operations as float
+use Rattle.refusals.specs.Largest as largest
+use Rattle.refusals.specs.Number as refusal
 use Rattle.algebra.specs.Algebra.{Algebra, RealParts, reals}
 use Rattle.algebra.specs.Flat.{Layout, Lawful, Agrees, realParts, decode, encode}
 use Rattle.algebra.specs.Outcome.{Outcome, value, refused, mapOutcome}
@@ -37,50 +38,50 @@ allowed true k x e = (refl, e)
 allowed false k x e = absurd (omega arith)
 
 pub record LuFits (w n a f p : ℕ) : Type 0 where
-  pub small : n ≤ 32
+  pub small : n ≤ largest.n
   pub input : a ≡ n * n * w
   pub factors : f ≡ n * n * w
   pub order : p ≡ n
 
 pub lu-fits : (w n a factors order : ℕ) → luRefusal w n a factors order ≡ 0 → LuFits w n a factors order
 lu-fits w n a f o e =
-    let s = passed (ltb 32 n) 0 _ e in
+    let s = passed (ltb largest.n n) 0 _ e in
     let l = allowed (eqb a (n * n * w) && (eqb f (n * n * w) && eqb o n)) 1 0 (s .1) in
     let x = both (eqb a (n * n * w)) (eqb f (n * n * w) && eqb o n) (l .0) in
     let y = both (eqb f (n * n * w)) (eqb o n) (x .1) in
-    record { small = ltb-false 32 n (s .0); input = eqb-true _ _ (x .0); factors = eqb-true _ _ (y .0); order = eqb-true _ _ (y .1) }
+    record { small = ltb-false largest.n n (s .0); input = eqb-true _ _ (x .0); factors = eqb-true _ _ (y .0); order = eqb-true _ _ (y .1) }
 
 -- what solve and inverse have in common
 pub record LentFits (w n f : ℕ) (p : List ℕ) : Type 0 where
-  pub small : n ≤ 32
+  pub small : n ≤ largest.n
   pub factors : f ≡ n * n * w
   pub order : Order n p
 
 pub solve-fits : (w n factors : ℕ) (order : List ℕ) (b x : ℕ) → solveRefusal w n factors order b x ≡ 0 → LentFits w n factors order × ((b ≡ n * w) × (x ≡ n * w))
 solve-fits w n f o b x e =
-    let s = passed (ltb 32 n) 0 _ e in
+    let s = passed (ltb largest.n n) 0 _ e in
     let l = allowed (eqb f (n * n * w) && (eqb (length o) n && (eqb b (n * w) && eqb x (n * w)))) 1 (orderRefusal n o) (s .1) in
     let p = both (eqb f (n * n * w)) (eqb (length o) n && (eqb b (n * w) && eqb x (n * w))) (l .0) in
     let q = both (eqb (length o) n) (eqb b (n * w) && eqb x (n * w)) (p .1) in
     let r = both (eqb b (n * w)) (eqb x (n * w)) (q .1) in (
-      record { small = ltb-false 32 n (s .0); factors = eqb-true _ _ (p .0); order = isOrder-order n o (eqb-true _ _ (q .0)) (allowed (isOrder n o) 6 0 (l .1) .0) },
+      record { small = ltb-false largest.n n (s .0); factors = eqb-true _ _ (p .0); order = isOrder-order n o (eqb-true _ _ (q .0)) (allowed (isOrder n o) 6 0 (l .1) .0) },
       (eqb-true _ _ (r .0), eqb-true _ _ (r .1)),
     )
 
 pub inverse-fits : (w n factors : ℕ) (order : List ℕ) (out : ℕ) → inverseRefusal w n factors order out ≡ 0 → LentFits w n factors order × (out ≡ n * n * w)
 inverse-fits w n f o x e =
-    let s = passed (ltb 32 n) 0 _ e in
+    let s = passed (ltb largest.n n) 0 _ e in
     let l = allowed (eqb f (n * n * w) && (eqb (length o) n && eqb x (n * n * w))) 1 (orderRefusal n o) (s .1) in
     let p = both (eqb f (n * n * w)) (eqb (length o) n && eqb x (n * n * w)) (l .0) in
     let q = both (eqb (length o) n) (eqb x (n * n * w)) (p .1) in
-    (record { small = ltb-false 32 n (s .0); factors = eqb-true _ _ (p .0); order = isOrder-order n o (eqb-true _ _ (q .0)) (allowed (isOrder n o) 6 0 (l .1) .0) }, eqb-true _ _ (q .1))
+    (record { small = ltb-false largest.n n (s .0); factors = eqb-true _ _ (p .0); order = isOrder-order n o (eqb-true _ _ (q .0)) (allowed (isOrder n o) 6 0 (l .1) .0) }, eqb-true _ _ (q .1))
 
-pub determinant-fits : (w n factors order : ℕ) → lengthsRefusal w n factors order ≡ 0 → (n ≤ 32) × ((factors ≡ n * n * w) × (order ≡ n))
+pub determinant-fits : (w n factors order : ℕ) → lengthsRefusal w n factors order ≡ 0 → (n ≤ largest.n) × ((factors ≡ n * n * w) × (order ≡ n))
 determinant-fits w n f o e =
-    let s = passed (ltb 32 n) 0 _ e in
+    let s = passed (ltb largest.n n) 0 _ e in
     let l = allowed (eqb f (n * n * w) && eqb o n) 1 0 (s .1) in
     let p = both (eqb f (n * n * w)) (eqb o n) (l .0) in
-    (ltb-false 32 n (s .0), (eqb-true _ _ (p .0), eqb-true _ _ (p .1)))
+    (ltb-false largest.n n (s .0), (eqb-true _ _ (p .0), eqb-true _ _ (p .1)))
 
 -- no value is a refusal, and two refusals of one kind have one number
 pub not-both : {S : Type 0} {x : S} {k : ℕ} → value x ≡ refused k → ⊥
@@ -139,13 +140,13 @@ module _ {R : Type 0} (A : Algebra R) (L : Layout R) (n : ℕ) where
 
 -- a call of LU by its three ways out: what holds of each holds of what it leaves
 module _ {R : Type 0} (A : Algebra R) (L : Layout R) (n : ℕ) (a f : List Float) (p : List ℕ) (P : LuLeft → Type 0) where
-  pub lu-cases : P (luAnswered (refused 1) 0 f p) → P (luAnswered (refused 2) 0 f p) → (LuFits (L .width) n (length a) (length f) (length p) → P (luFinish A L n (luOf A n (decode L a))))
+  pub lu-cases : P (luAnswered (refused refusal.tooLarge) 0 f p) → P (luAnswered (refused refusal.wrongLength) 0 f p) → (LuFits (L .width) n (length a) (length f) (length p) → P (luFinish A L n (luOf A n (decode L a))))
       → P (luLeft A L n a f p)
   unfolding luLeft
-  lu-cases large long done = go (ltb 32 n) (eqb (length a) (n * n * L .width) && (eqb (length f) (n * n * L .width) && eqb (length p) n)) (λ e. done (lu-fits (L .width) n (length a) (length f) (length p) e))
+  lu-cases large long done = go (ltb largest.n n) (eqb (length a) (n * n * L .width) && (eqb (length f) (n * n * L .width) && eqb (length p) n)) (λ e. done (lu-fits (L .width) n (length a) (length f) (length p) e))
     where
       number : Bool → Bool → ℕ
-      number s t = cond s 1 (cond t 0 2)
+      number s t = cond s refusal.tooLarge (cond t 0 refusal.wrongLength)
 
       go : (s t : Bool) → (number s t ≡ 0 → P (luFinish A L n (luOf A n (decode L a)))) → P (cond (eqb (number s t) 0) (luFinish A L n (luOf A n (decode L a))) (luAnswered (refused (number s t)) 0 f p))
       go true t h = large
@@ -164,7 +165,7 @@ module _ {R : Type 0} (A : Algebra R) (L : Layout R) (W : Lawful L) (n : ℕ) (r
 
 -- a permutation of 0..n-1, and a swap count of its parity, at most n
 pub record LeavesOrder (n : ℕ) (p : List ℕ) (swaps : ℕ) : Type 0 where
-  pub small : n ≤ 32
+  pub small : n ≤ largest.n
   pub order : Order n p
   pub parities : parity p ≡ isOdd swaps
   pub few : swaps ≤ n
@@ -175,7 +176,7 @@ module _ {R : Type 0} (A : Algebra R) (L : Layout R) (n : ℕ) where
       lu-cases A L n a f p (λ l. l .answer ≡ value swaps → LeavesOrder n (l .order) swaps) (λ e. absurd (not-both (sym e))) (λ e. absurd (not-both (sym e)))
       (λ t. finish (t .small) (luOf A n (decode L a)) (lu-ordered A n (decode L a)) (lu-few A n (decode L a)))
     where
-      finish : n ≤ 32 → (r : Run R) → Ordered n r → swapsIn r ≤ n → luFinish A L n r .answer ≡ value swaps → LeavesOrder n (luFinish A L n r .order) swaps
+      finish : n ≤ largest.n → (r : Run R) → Ordered n r → swapsIn r ≤ n → luFinish A L n r .answer ≡ value swaps → LeavesOrder n (luFinish A L n r .order) swaps
       finish h (singular c) o b e = absurd (not-both (sym e))
       finish h (going m q k) o b e = let z : k ≡ swaps = cc in record { small = h; order = o .0; parities = o .1 ∙ ap isOdd z; few = omega arith }
 
@@ -184,9 +185,9 @@ pub accepted-order : (n : ℕ) (p : List ℕ) (swaps : ℕ) → LeavesOrder n p 
 accepted-order n p swaps l =
     let s = l .small in
     let b = l .few in
-    (rw (order-isOrder n p (l .order)) refl, rw (le-ltb 32 swaps (omega arith), l .parities) (go (isOdd swaps)))
+    (rw (order-isOrder n p (l .order)) refl, rw (le-ltb largest.swaps swaps (omega arith), l .parities) (go (isOdd swaps)))
   where
-    go : (t : Bool) → _≡_ {A = ℕ} (cond (differ t t) 8 0) 0
+    go : (t : Bool) → _≡_ {A = ℕ} (cond (differ t t) refusal.wrongSwaps 0) 0
     go true = refl
     go false = refl
 
@@ -227,7 +228,7 @@ module _ {R : Type 0} (A : Algebra R) (L : Layout R) (W : Lawful L) (G : Agrees 
       → SameLu (L .width) (luLeft A L n a f p) (luLeft A L n a′ f′ p′)
   unfolding luLeft seen
   lu-same a a′ f f′ p p′ ha e hf hp =
-      rw (ha, hf, hp) (go (ltb 32 n) (eqb (length a′) (n * n * L .width) && (eqb (length f′) (n * n * L .width) && eqb (length p′) n)) (luFinish A L n (luOf A n (decode L a))) (luFinish A L n (luOf A n (decode L a′))) (lu-seen a a′ e))
+      rw (ha, hf, hp) (go (ltb largest.n n) (eqb (length a′) (n * n * L .width) && (eqb (length f′) (n * n * L .width) && eqb (length p′) n)) (luFinish A L n (luOf A n (decode L a))) (luFinish A L n (luOf A n (decode L a′))) (lu-seen a a′ e))
     where
       go : (s t : Bool) (x y : LuLeft) → seen x ≡ seen y
           → SameLu (L .width) (cond (eqb (cond s 1 (cond t 0 2)) 0) x (luAnswered (refused (cond s 1 (cond t 0 2))) 0 f p)) (cond (eqb (cond s 1 (cond t 0 2)) 0) y (luAnswered (refused (cond s 1 (cond t 0 2))) 0 f′ p′))
@@ -251,7 +252,7 @@ module _ {R : Type 0} (A : Algebra R) (L : Layout R) (W : Lawful L) (G : Agrees 
   unfolding solveLeft
   solve-same f f′ p b b′ x x′ hf ef hb eb hx =
       rw (hf, hb, hx)
-      (filled-same (solveRefusal (L .width) n (length f′) p (length b′) (length x′)) _ _ x x′ (never-six (ltb 32 n) (eqb (length f′) (n * n * L .width) && (eqb (length p) n && (eqb (length b′) (n * L .width) && eqb (length x′) (n * L .width)))) (isOrder n p))
+      (filled-same (solveRefusal (L .width) n (length f′) p (length b′) (length x′)) _ _ x x′ (never-six (ltb largest.n n) (eqb (length f′) (n * n * L .width) && (eqb (length p) n && (eqb (length b′) (n * L .width) && eqb (length x′) (n * L .width)))) (isOrder n p))
       (solve-map A reals (A .re) K n (decode L f) p (decode L b)
       ∙ (λ i. solveOf reals n (same-reals f f′ ef i) p (same-reals b b′ eb i))
       ∙ sym (solve-map A reals (A .re) K n (decode L f′) p (decode L b′))))
@@ -262,7 +263,7 @@ module _ {R : Type 0} (A : Algebra R) (L : Layout R) (W : Lawful L) (G : Agrees 
   unfolding inverseLeft
   inverse-same f f′ p x x′ hf ef hx =
       rw (hf, hx)
-      (filled-same (inverseRefusal (L .width) n (length f′) p (length x′)) _ _ x x′ (never-six (ltb 32 n) (eqb (length f′) (n * n * L .width) && (eqb (length p) n && eqb (length x′) (n * n * L .width))) (isOrder n p))
+      (filled-same (inverseRefusal (L .width) n (length f′) p (length x′)) _ _ x x′ (never-six (ltb largest.n n) (eqb (length f′) (n * n * L .width) && (eqb (length p) n && eqb (length x′) (n * n * L .width))) (isOrder n p))
       (inverse-map A reals (A .re) K n (decode L f) p ∙ ap (λ (m : List Float). inverseOf reals n m p) (same-reals f f′ ef) ∙ sym (inverse-map A reals (A .re) K n (decode L f′) p)))
 
   -- determinant

@@ -7,6 +7,7 @@ use native.Mathlib.Omega.{arith}
 use lib.ListN.{length, getD}
 use lib.Ieee.{Float}
 use borrow.Author.Tests.{le-ltb, eq-eqb, ne-eqb}
+use Rattle.refusals.specs.Largest as largest
 use Rattle.refusals.specs.Number as refusal
 use Rattle.algebra.specs.Algebra.{Algebra, zeroOf, oneOf}
 use Rattle.algebra.specs.Flat.{Layout, decode}
@@ -54,7 +55,7 @@ module _ {R : Type 0} {A : Algebra R} {L : Layout R} (Q : Laws A L) where
   walking n a o = record { marks = marking n o; product = multiplying n a }
 
   -- what is below n has its bits
-  pub walk-bit : (n : ℕ) (a : List Float) (x : ℕ) → Square (L .width) n a → (n ≤ x → ⊥) → x < 32
+  pub walk-bit : (n : ℕ) (a : List Float) (x : ℕ) → Square (L .width) n a → (n ≤ x → ⊥) → x < largest.n
   walk-bit n a x q below = let z = q .small in omega arith
 
   pub walk-turn : {n : ℕ} {a : List Float} {o : List ℕ} {m : Marks} {x : R} {i : ℕ} → Walking n a o m x i → (m′ : Marks) (u y : R) → i < n → Square (L .width) n a → length o ≡ n → (n ≤ getD o i 0 → ⊥)
@@ -66,7 +67,7 @@ module _ {R : Type 0} {A : Algebra R} {L : Layout R} (Q : Laws A L) where
 
   -- the lengths are right: 7 or 8 is left
   right : (n : ℕ) (a : List Float) (o : List ℕ) (s : ℕ) → Square (L .width) n a → length o ≡ n → determinantRefusal (L .width) n (length a) o s ≡ cond (isOrder n o) (swapsRefusal o s) 7
-  right n a o s q long = rw (le-ltb 32 n (q .small), eq-eqb _ _ (q .full), eq-eqb _ _ long) refl
+  right n a o s q long = rw (le-ltb largest.n n (q .small), eq-eqb _ _ (q .full), eq-eqb _ _ long) refl
 
   pub walk-stop : (n : ℕ) (a : List Float) (o : List ℕ) (s : ℕ) (m : Marks) (x : R) (i : ℕ) → Walking n a o m x i → i < n → Square (L .width) n a → length o ≡ n → n ≤ getD o i 0
       → refused refusal.notAnOrder ≡ determinantLeft A L n a o s

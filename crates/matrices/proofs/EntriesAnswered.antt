@@ -6,6 +6,7 @@ use mathlib.Core.List.{List}
 use lib.Dec.{ltb, eqb}
 use lib.ListN.{length}
 use lib.Ieee.{Float}
+use Rattle.refusals.specs.Largest as largest
 use Rattle.algebra.specs.Algebra.{Algebra}
 use Rattle.algebra.specs.Flat.{Layout, decode}
 use Rattle.algebra.specs.Outcome.{value, refused}
@@ -21,7 +22,7 @@ use Rattle.matrices.specs.Walk.{lengthsRefusal}
 use Rattle.matrices.proofs.Answers.{lu-fits, solve-fits, inverse-fits, determinant-fits, lu-done, solve-done, inverse-done, determinant-refused}
 
 module _ {R : Type 0} {A : Algebra R} {L : Layout R} (Q : Laws A L) where
-  square-of : (n : ℕ) (l : List Float) → n ≤ 32 → length l ≡ n * n * L .width → Square (L .width) n l
+  square-of : (n : ℕ) (l : List Float) → n ≤ largest.n → length l ≡ n * n * L .width → Square (L .width) n l
   square-of n l h e = record { small = h; some = Q .lawful .positive; narrow = Q .narrow; full = e }
 
   pub lu-allowed : (n : ℕ) (a f : List Float) (o : List ℕ) (k : ℕ) → k ≡ luRefusal (L .width) n (length a) (length f) (length o) → k ≡ 0
@@ -63,7 +64,7 @@ module _ {R : Type 0} {A : Algebra R} {L : Layout R} (Q : Laws A L) where
 
   pub determinant-unfit : (n : ℕ) (f : List Float) (o : List ℕ) (s k : ℕ) → k ≡ lengthsRefusal (L .width) n (length f) (length o) → (k ≡ 0 → ⊥) → refused k ≡ determinantLeft A L n f o s
   determinant-unfit n f o s k e ne =
-      determinant-refused A L n f o s k (go (ltb 32 n) (eqb (length f) (n * n * L .width) && eqb (length o) n) e) ne
+      determinant-refused A L n f o s k (go (ltb largest.n n) (eqb (length f) (n * n * L .width) && eqb (length o) n) e) ne
     where
       go : (t b : Bool) → k ≡ cond t 1 (cond b 0 2) → k ≡ cond t 1 (cond b (cond (isOrder n o) (swapsRefusal o s) 7) 2)
       go true b e = e

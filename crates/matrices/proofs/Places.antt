@@ -7,6 +7,7 @@ use native.Mathlib.Omega.{arith}
 use lib.ListN.{length, getD}
 use lib.Ieee.{Float}
 use Rattle.real.specs.Operations as float
+use Rattle.refusals.specs.Largest as largest
 use Rattle.algebra.specs.Algebra.{reals}
 use Rattle.algebra.specs.Flat.{realParts}
 use Rattle.algebra.proofs.Flat.{tabulate-at}
@@ -31,20 +32,20 @@ flat-row w n r c = add-mul (r * n) c w ∙ ap (λ (k : ℕ). k + c * w) (mul-ass
 
 -- the record at row r and column c lies whole in the floats
 pub record Inside (w n r c : ℕ) (l : List Float) : Type 0 where
-  pub row : r * n ≤ 1024
+  pub row : r * n ≤ largest.n * largest.n
   pub there : (r * n + c) * w + w ≤ length l
 
 pub inside : (w n r c : ℕ) (l : List Float) → Square w n l → r < n → c < n → Inside w n r c l
 inside w n r c l s hr hc =
     let z = s .small in
-    let h : r ≤ 32 = omega arith in
+    let h : r ≤ largest.n = omega arith in
     record { row = mul-le-mul h z; there = omega (arith, flat-place w (n * n) (r * n + c) (place n r c hr hc), s .full) }
 
 -- a row of a square matrix
 pub row-place : (w n i : ℕ) (l : List Float) → Square w n l → i < n → RowPlace w n i l
 row-place w n i l s h =
     let z = s .small in
-    let b : i ≤ 32 = omega arith in
+    let b : i ≤ largest.n = omega arith in
     record { small = z; below = h; start = mul-le-mul b z; whole = omega (arith, mul-le-mul-right w (row-there n i h), s .full) }
 
 -- and of floats of the same length
@@ -61,18 +62,18 @@ row-inside w n l r s h =
 
 -- no product of the code is large
 pub record Few (w n : ℕ) : Type 0 where
-  pub square : n * n ≤ 1024
-  pub row : n * w ≤ 256
-  pub all : n * n * w ≤ 8192
+  pub square : n * n ≤ largest.n * largest.n
+  pub row : n * w ≤ largest.n * largest.width
+  pub all : n * n * w ≤ largest.n * largest.n * largest.width
 
-pub few : (w n : ℕ) → n ≤ 32 → w ≤ 8 → Few w n
+pub few : (w n : ℕ) → n ≤ largest.n → w ≤ largest.width → Few w n
 few w n h k = record { square = mul-le-mul h h; row = mul-le-mul h k; all = mul-le-mul (mul-le-mul h h) k }
 
 -- nor is the place of row i or of column i, by the floats of a row
-pub column-places : (w n i : ℕ) (l : List Float) → Square w n l → i < n → (i * (n * w) ≤ 8192) × ((i * w ≤ 256) × (n * w ≤ 256))
+pub column-places : (w n i : ℕ) (l : List Float) → Square w n l → i < n → (i * (n * w) ≤ largest.n * (largest.n * largest.width)) × ((i * w ≤ largest.n * largest.width) × (n * w ≤ largest.n * largest.width))
 column-places w n i l s h =
     let z = s .small in
-    let b : i ≤ 32 = omega arith in
+    let b : i ≤ largest.n = omega arith in
     (mul-le-mul b (mul-le-mul z (s .narrow)), (mul-le-mul b (s .narrow), mul-le-mul z (s .narrow)))
 
 -- the real part at row r and column c, in the floats

@@ -9,6 +9,7 @@ use lib.ListN.{length, replicate}
 use lib.Ieee.{Float}
 use Rattle.refusals.specs.Number as refusal
 use Rattle.real.specs.Operations as float
+use Rattle.refusals.specs.Largest as largest
 use Rattle.algebra.specs.Algebra.{Algebra}
 use Rattle.algebra.specs.Flat.{Layout, decode}
 use Rattle.algebra.specs.Outcome.{value, refused}
@@ -23,7 +24,7 @@ module _ {R : Type 0} (A : Algebra R) (L : Layout R) (n : ℕ) where
   pub lu-equal : (a f f′ : List Float) (p p′ : List ℕ) → length f ≡ length f′ → length p ≡ length p′ → EqualLu (luLeft A L n a f p) (luLeft A L n a f′ p′)
   unfolding luLeft
   lu-equal a f f′ p p′ hf hp =
-      rw (hf, hp) (go (ltb 32 n) (eqb (length a) (n * n * L .width) && (eqb (length f′) (n * n * L .width) && eqb (length p′) n)) (luFinish A L n (luOf A n (decode L a))))
+      rw (hf, hp) (go (ltb largest.n n) (eqb (length a) (n * n * L .width) && (eqb (length f′) (n * n * L .width) && eqb (length p′) n)) (luFinish A L n (luOf A n (decode L a))))
     where
       left : List Float → List ℕ → ℕ → LuLeft → LuLeft
       left g q k x = cond (eqb k 0) x (luAnswered (refused k) 0 g q)
@@ -80,7 +81,7 @@ module _ {R : Type 0} (A : Algebra R) (L : Layout R) (n : ℕ) where
   unfolding solveLeft filled
   solve-equal f p b x x′ h =
       rw h (filled-equal (solveRefusal (L .width) n (length f) p (length b) (length x′)) _ x x′
-      (never-six (ltb 32 n) (eqb (length f) (n * n * L .width) && (eqb (length p) n && (eqb (length b) (n * L .width) && eqb (length x′) (n * L .width)))) (isOrder n p)))
+      (never-six (ltb largest.n n) (eqb (length f) (n * n * L .width) && (eqb (length p) n && (eqb (length b) (n * L .width) && eqb (length x′) (n * L .width)))) (isOrder n p)))
 
   pub solve-kept : (f : List Float) (p : List ℕ) (b x : List Float) (number : ℕ) → solveLeft A L n f p b x .answer ≡ refused number → solveLeft A L n f p b x .result ≡ x
   unfolding solveLeft filled
@@ -90,7 +91,7 @@ module _ {R : Type 0} (A : Algebra R) (L : Layout R) (n : ℕ) where
   unfolding inverseLeft filled
   inverse-equal f p x x′ h =
       rw h (filled-equal (inverseRefusal (L .width) n (length f) p (length x′)) _ x x′
-      (never-six (ltb 32 n) (eqb (length f) (n * n * L .width) && (eqb (length p) n && eqb (length x′) (n * n * L .width))) (isOrder n p)))
+      (never-six (ltb largest.n n) (eqb (length f) (n * n * L .width) && (eqb (length p) n && eqb (length x′) (n * n * L .width))) (isOrder n p)))
 
   pub inverse-kept : (f : List Float) (p : List ℕ) (x : List Float) (number : ℕ) → inverseLeft A L n f p x .answer ≡ refused number → inverseLeft A L n f p x .result ≡ x
   unfolding inverseLeft filled

@@ -11,6 +11,7 @@ use lib.Pow.{pow-pos, pow-mono, pow-lt, pow-add, shl-shr, shl-exact, shr-shr, on
 use lib.Dec.{ltb, eqb}
 use lib.ListN.{length, getD, drop}
 use borrow.Author.Tests.{lt-ltb, le-ltb, eq-eqb, ne-eqb}
+use Rattle.refusals.specs.Largest as largest
 use Rattle.matrices.specs.Order.{isOrder, differ, oddBelow, parity}
 use Rattle.matrices.specs.Walk.{marked, markOf, marksNone, marksWith, isFull}
 use Rattle.matrices.specs.declared.Marks.{Marks}
@@ -175,7 +176,7 @@ pub record Marking (n : ℕ) (o : List ℕ) (m : Marks) (i : ℕ) : Type 0 where
 pub marking : (n : ℕ) (o : List ℕ) → Marking n o marksNone 0
 marking n o = record { inversions = inversions-start o; coming = λ x. ap (λ (t : Bool). differ t (oddly x o)) (marked-zero x); bounded = refl }
 
-pub mark-turn : (n : ℕ) (o : List ℕ) (m : Marks) (i : ℕ) → Marking n o m i → i < length o → getD o i 0 < n → n ≤ 32 → Marking n o (marksWith m (getD o i 0)) (i + 1)
+pub mark-turn : (n : ℕ) (o : List ℕ) (m : Marks) (i : ℕ) → Marking n o m i → i < length o → getD o i 0 < n → n ≤ largest.n → Marking n o (marksWith m (getD o i 0)) (i + 1)
 unfolding oddly allBelow
 mark-turn n o m i k h below small =
     let x = getD o i 0 in

@@ -8,18 +8,18 @@ use Rattle.refusals.specs.Largest as largest
 use Rattle.algebra.specs.Algebra.{Algebra, zeroOf}
 use Rattle.algebra.specs.Loop.{upto}
 
--- flat floats that hold n by n records of w floats each, n at most 32
+-- flat floats that hold n by n records of w floats each, n at most the largest
 pub record Square (w n : ℕ) (l : List Float) : Type 0 where
   pub small : n ≤ largest.n
   pub some : 0 < w
-  pub narrow : w ≤ 8
+  pub narrow : w ≤ largest.width
   pub full : length l ≡ n * n * w
 
 -- one of its rows: row i, whole in the floats
 pub record RowPlace (w n i : ℕ) (l : List Float) : Type 0 where
   pub small : n ≤ largest.n
   pub below : i < n
-  pub start : i * n ≤ 1024
+  pub start : i * n ≤ largest.n * largest.n
   pub whole : (i * n + n) * w ≤ length l
 
 -- the elements at p and q exchanged (d stands for what is not there)

@@ -50,7 +50,7 @@ pub(crate) fn differs(t: bool, b: bool) -> bool
 
 // x has come: with it as many more inversions as numbers above it have come. In the word, it changes its own bit 32 + x and those of the numbers below it.
 pub fn mark(m: Marks, x: usize) -> Marks
-    requires { ⌜ x < 32 ⌝ }
+    requires { ⌜ x < largest.n ⌝ }
     ensures { λ r. ⌜ r ≡ marksWith m x ⌝ }
 {
     let word = m.word;

@@ -10,7 +10,7 @@ ghost use Rattle.matrices.specs.Walk.{lengthsRefusal, walkedRefusal};
 
 // Of LU, by the lengths that are lent.
 pub fn lu(w: usize, n: usize, a: usize, factors: usize, order: usize) -> u32
-    requires { ⌜ w ≤ 8 ⌝ }
+    requires { ⌜ w ≤ largest.width ⌝ }
     ensures { λ r. ⌜ r ≡ luRefusal w n a factors order ⌝ }
 {
     if refusals::LARGEST_N < n {
@@ -44,7 +44,7 @@ fn not_an_order(n: usize, order: &[usize]) -> u32
 
 // Of solve.
 pub fn solve(w: usize, n: usize, factors: usize, order: &[usize], b: usize, x: usize) -> u32
-    requires { ⌜ w ≤ 8 ⌝ }
+    requires { ⌜ w ≤ largest.width ⌝ }
     ensures { λ r. ⌜ r ≡ solveRefusal w n factors (now (order .entry)) b x ⌝ }
 {
     if refusals::LARGEST_N < n {
@@ -67,7 +67,7 @@ pub fn solve(w: usize, n: usize, factors: usize, order: &[usize], b: usize, x: u
 
 // Of inverse.
 pub fn inverse(w: usize, n: usize, factors: usize, order: &[usize], out: usize) -> u32
-    requires { ⌜ w ≤ 8 ⌝ }
+    requires { ⌜ w ≤ largest.width ⌝ }
     ensures { λ r. ⌜ r ≡ inverseRefusal w n factors (now (order .entry)) out ⌝ }
 {
     if refusals::LARGEST_N < n {
@@ -88,7 +88,7 @@ pub fn inverse(w: usize, n: usize, factors: usize, order: &[usize], out: usize) 
 
 // Of determinant, by the lengths that are lent; 7 and 8 are found on its walk over the order.
 pub fn determinant(w: usize, n: usize, factors: usize, order: usize) -> u32
-    requires { ⌜ w ≤ 8 ⌝ }
+    requires { ⌜ w ≤ largest.width ⌝ }
     ensures { λ r. ⌜ r ≡ lengthsRefusal w n factors order ⌝ }
 {
     if refusals::LARGEST_N < n {

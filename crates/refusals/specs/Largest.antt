@@ -6,6 +6,10 @@ use lib.IntN.{ℤ, pos, negsuc}
 abbrev pub n : ℕ
 n = 32
 
+-- of the floats of a record: those of HyperHyperDual
+abbrev pub width : ℕ
+width = 8
+
 -- of a limit of sweeps
 abbrev pub limit : ℕ
 limit = 1000

@@ -21,7 +21,7 @@ fn least(a: usize, b: usize) -> usize
 // Reads so many bytes to the start of a lent buffer, as far as it and the file go.
 pub fn read_text(
     file: i32,
-    buffer: &mut [u8; 4096],
+    buffer: &mut [u8; super::BUFFER],
     place: Place,
     count: u64,
     bytes: &mut [u8],

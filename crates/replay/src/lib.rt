@@ -9,6 +9,9 @@ pub mod tally;
 ghost use mathlib.Core.Path.{_≡_};
 ghost use Rattle.replay.specs.Reading.{seenAfter};
 
+// How many bytes are read of a file at once.
+pub const BUFFER: usize = 4096;
+
 // The bytes at..end of the buffer are still to be read.
 pub struct Place {
     pub at: usize,
@@ -47,10 +50,10 @@ pub fn start() -> Place
     Place { at: 0, end: 0 }
 }
 
-fn next_byte(file: i32, buffer: &mut [u8; 4096], place: Place) -> Byte {
+fn next_byte(file: i32, buffer: &mut [u8; BUFFER], place: Place) -> Byte {
     let at = place.at;
     let end = place.end;
-    if at < end && at < 4096 {
+    if at < end && at < BUFFER {
         return Byte::Is(buffer[at], Place { at: at + 1, end });
     }
     let count = io::read_full(file, buffer);
@@ -116,7 +119,7 @@ fn scan(s: Seen, b: u8) -> Seen
 }
 
 // The next word of the file.
-pub fn next_word(file: i32, buffer: &mut [u8; 4096], place: Place) -> Word {
+pub fn next_word(file: i32, buffer: &mut [u8; BUFFER], place: Place) -> Word {
     let mut here = place;
     let mut s = Seen {
         word: 0,
@@ -148,7 +151,7 @@ pub fn next_word(file: i32, buffer: &mut [u8; 4096], place: Place) -> Word {
 // Fills the lent words from the file's next ones, which are to have so many digits each.
 pub fn read_words(
     file: i32,
-    buffer: &mut [u8; 4096],
+    buffer: &mut [u8; BUFFER],
     place: Place,
     digits: u32,
     words: &mut [u64],

@@ -113,7 +113,7 @@ pub fn after(run: Run, case: Compared) -> Run
 }
 
 // The number of cases, in eight digits: what a file begins with.
-pub fn begin(file: i32, buffer: &mut [u8; 4096]) -> Run {
+pub fn begin(file: i32, buffer: &mut [u8; super::BUFFER]) -> Run {
     let count = super::next_word(file, buffer, super::start());
     let place = count.place;
     let run = Run {
@@ -131,7 +131,7 @@ pub fn begin(file: i32, buffer: &mut [u8; 4096]) -> Run {
 }
 
 // Whether the file has nothing more but newlines.
-fn at_end(file: i32, buffer: &mut [u8; 4096], place: Place) -> bool {
+fn at_end(file: i32, buffer: &mut [u8; super::BUFFER], place: Place) -> bool {
     let mut here = place;
     let mut turns = u64::MAX;
     while turns > 0 {
@@ -149,7 +149,7 @@ fn at_end(file: i32, buffer: &mut [u8; 4096], place: Place) -> bool {
 }
 
 // The count of a file whose cases have been read: what comes after the last of them is one more that differs.
-pub fn ended(file: i32, buffer: &mut [u8; 4096], run: Run) -> Tally {
+pub fn ended(file: i32, buffer: &mut [u8; super::BUFFER], run: Run) -> Tally {
     let place = run.place;
     let tally = run.tally;
     if at_end(file, buffer, place) {

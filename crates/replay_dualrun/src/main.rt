@@ -7,7 +7,7 @@ use replay::tally::Compared;
 use replay::tally::Tally;
 
 // One case: the lengths of the input and the output, the input, the output.
-fn case(file: i32, buffer: &mut [u8; 4096], place: Place) -> Compared {
+fn case(file: i32, buffer: &mut [u8; replay::BUFFER], place: Place) -> Compared {
     let mut text = io::large_buffer();
     let mut wanted = io::large_buffer();
     let mut out = io::large_buffer();
@@ -30,7 +30,7 @@ fn case(file: i32, buffer: &mut [u8; 4096], place: Place) -> Compared {
 
 // Every case.
 fn cases(file: i32) -> Tally {
-    let mut buffer = [0u8; 4096];
+    let mut buffer = [0u8; replay::BUFFER];
     let mut run = tally::begin(file, &mut buffer);
     while run.left > 0 {
         let place = run.place;

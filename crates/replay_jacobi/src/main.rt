@@ -21,7 +21,7 @@ struct Head {
     place: Place,
 }
 
-fn read_head(file: i32, buffer: &mut [u8; 4096], place: Place) -> Head {
+fn read_head(file: i32, buffer: &mut [u8; replay::BUFFER], place: Place) -> Head {
     let mut size = [0u64; 1];
     let mut counts = [0u64; 2];
     let mut rotations = [0u64; 1];
@@ -116,7 +116,7 @@ fn same_runs(
 // One case, in buffers of the lengths of n.
 fn case_of(
     file: i32,
-    buffer: &mut [u8; 4096],
+    buffer: &mut [u8; replay::BUFFER],
     place: Place,
     n: usize,
     limit: usize,
@@ -155,26 +155,26 @@ fn case_of(
 }
 
 // One case, in buffers full of what must not stay.
-fn case(file: i32, buffer: &mut [u8; 4096], place: Place) -> Compared {
+fn case(file: i32, buffer: &mut [u8; replay::BUFFER], place: Place) -> Compared {
     let head = read_head(file, buffer, place);
     let place = head.place;
     let size = head.size;
     if !head.whole {
         return tally::cut(place);
     }
-    if 32 < size {
+    if size > refusals::LARGEST_N as u64 {
         return tally::cut(place);
     }
     let n = size as usize;
     let full = replay_matrices::floats_in(n, 2);
     let row = n * 2;
-    let mut words = [7u64; 4096];
-    let mut a = [7.0f64; 4096];
-    let mut values = [7u64; 64];
-    let mut first_values = [7.0f64; 64];
-    let mut first_vectors = [7.0f64; 4096];
-    let mut values_again = [5.0f64; 64];
-    let mut vectors_again = [5.0f64; 4096];
+    let mut words = [7u64; replay_matrices::MOST_FLOATS];
+    let mut a = [7.0f64; replay_matrices::MOST_FLOATS];
+    let mut values = [7u64; replay_matrices::MOST_IN_ROW];
+    let mut first_values = [7.0f64; replay_matrices::MOST_IN_ROW];
+    let mut first_vectors = [7.0f64; replay_matrices::MOST_FLOATS];
+    let mut values_again = [5.0f64; replay_matrices::MOST_IN_ROW];
+    let mut vectors_again = [5.0f64; replay_matrices::MOST_FLOATS];
     case_of(
         file,
         buffer,
@@ -194,7 +194,7 @@ fn case(file: i32, buffer: &mut [u8; 4096], place: Place) -> Compared {
 
 // Every case.
 fn cases(file: i32) -> Tally {
-    let mut buffer = [0u8; 4096];
+    let mut buffer = [0u8; replay::BUFFER];
     let mut run = tally::begin(file, &mut buffer);
     while run.left > 0 {
         let place = run.place;

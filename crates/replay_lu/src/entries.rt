@@ -8,7 +8,7 @@ use replay_matrices::Numbers;
 // The order and the factors that solve, determinant and inverse are handed.
 fn read_factors(
     file: i32,
-    buffer: &mut [u8; 4096],
+    buffer: &mut [u8; replay::BUFFER],
     place: Place,
     words: &mut [u64],
     numbers: &mut [u64],
@@ -28,7 +28,7 @@ fn read_factors(
 // The order and the factors that LU left, where it was done.
 fn read_left(
     file: i32,
-    buffer: &mut [u8; 4096],
+    buffer: &mut [u8; replay::BUFFER],
     place: Place,
     number: u64,
     words: &mut [u64],
@@ -50,7 +50,7 @@ fn read_left(
 pub(crate) fn lu(
     width: usize,
     file: i32,
-    buffer: &mut [u8; 4096],
+    buffer: &mut [u8; replay::BUFFER],
     place: Place,
     n: usize,
     wanted: Numbers,
@@ -74,7 +74,7 @@ pub(crate) fn lu(
 pub(crate) fn solve(
     width: usize,
     file: i32,
-    buffer: &mut [u8; 4096],
+    buffer: &mut [u8; replay::BUFFER],
     place: Place,
     n: usize,
     words: &mut [u64],
@@ -101,7 +101,7 @@ pub(crate) fn solve(
 pub(crate) fn determinant(
     width: usize,
     file: i32,
-    buffer: &mut [u8; 4096],
+    buffer: &mut [u8; replay::BUFFER],
     place: Place,
     n: usize,
     swaps: u64,
@@ -123,7 +123,7 @@ pub(crate) fn determinant(
 pub(crate) fn inverse(
     width: usize,
     file: i32,
-    buffer: &mut [u8; 4096],
+    buffer: &mut [u8; replay::BUFFER],
     place: Place,
     n: usize,
     words: &mut [u64],

@@ -11,6 +11,8 @@ use replay::tally::Tally;
 use replay_matrices::Numbers;
 ghost use mathlib.Core.Path.{_≡_};
 ghost use Prim.Native.Nat.{_≤_};
+ghost use Rattle.refusals.specs.Largest as largest;
+ghost use Rattle.replay_matrices.specs.Room.{widest};
 ghost use Rattle.replay_lu.specs.Over.{fieldsOf};
 
 // The entry that a file is of.
@@ -38,13 +40,13 @@ fn case_of(
     entry: u8,
     width: usize,
     file: i32,
-    buffer: &mut [u8; 4096],
+    buffer: &mut [u8; replay::BUFFER],
     place: Place,
     n: usize,
     first: u64,
     second: u64,
 ) -> Compared
-    requires { ⌜ (n ≤ 32) × (width ≤ 4) ⌝ }
+    requires { ⌜ (n ≤ largest.n) × (width ≤ widest) ⌝ }
 {
     match entry {
         LU => {
@@ -61,8 +63,14 @@ fn case_of(
 }
 
 // One case.
-fn case(entry: u8, width: usize, file: i32, buffer: &mut [u8; 4096], place: Place) -> Compared
-    requires { ⌜ width ≤ 4 ⌝ }
+fn case(
+    entry: u8,
+    width: usize,
+    file: i32,
+    buffer: &mut [u8; replay::BUFFER],
+    place: Place,
+) -> Compared
+    requires { ⌜ width ≤ widest ⌝ }
 {
     let mut head = [0u64; 3];
     let count = fields(entry);
@@ -72,7 +80,7 @@ fn case(entry: u8, width: usize, file: i32, buffer: &mut [u8; 4096], place: Plac
     if !read.whole {
         return tally::cut(place);
     }
-    if 32 < size {
+    if size > refusals::LARGEST_N as u64 {
         return tally::cut(place);
     }
     case_of(
@@ -89,9 +97,9 @@ fn case(entry: u8, width: usize, file: i32, buffer: &mut [u8; 4096], place: Plac
 
 // Every case.
 fn cases(entry: u8, width: usize, file: i32) -> Tally
-    requires { ⌜ width ≤ 4 ⌝ }
+    requires { ⌜ width ≤ widest ⌝ }
 {
-    let mut buffer = [0u8; 4096];
+    let mut buffer = [0u8; replay::BUFFER];
     let mut run = tally::begin(file, &mut buffer);
     while run.left > 0 {
         let place = run.place;
@@ -103,7 +111,7 @@ fn cases(entry: u8, width: usize, file: i32) -> Tally
 
 // Replays a file, and reports it by a name.
 fn replay_file(entry: u8, width: usize, path: &[u8], name: &[u8])
-    requires { ⌜ width ≤ 4 ⌝ }
+    requires { ⌜ width ≤ widest ⌝ }
 {
     let file = os::open_read(path);
     if file < 0 {

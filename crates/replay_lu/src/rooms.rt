@@ -4,23 +4,25 @@ use replay::Place;
 use replay::tally::Compared;
 use replay_matrices::Numbers;
 ghost use Prim.Native.Nat.{_≤_};
+ghost use Rattle.refusals.specs.Largest as largest;
+ghost use Rattle.replay_matrices.specs.Room.{widest};
 
 pub(crate) fn lu(
     width: usize,
     file: i32,
-    buffer: &mut [u8; 4096],
+    buffer: &mut [u8; replay::BUFFER],
     place: Place,
     n: usize,
     wanted: Numbers,
 ) -> Compared
-    requires { ⌜ (n ≤ 32) × (width ≤ 4) ⌝ }
+    requires { ⌜ (n ≤ largest.n) × (width ≤ widest) ⌝ }
 {
     let full = replay_matrices::floats_in(n, width);
-    let mut words = [7u64; 4096];
-    let mut numbers = [7u64; 32];
-    let mut matrix = [7.0f64; 4096];
-    let mut order = [7usize; 32];
-    let mut out = [7.0f64; 4096];
+    let mut words = [7u64; replay_matrices::MOST_FLOATS];
+    let mut numbers = [7u64; refusals::LARGEST_N];
+    let mut matrix = [7.0f64; replay_matrices::MOST_FLOATS];
+    let mut order = [7usize; refusals::LARGEST_N];
+    let mut out = [7.0f64; replay_matrices::MOST_FLOATS];
     entries::lu(
         width,
         file,
@@ -39,21 +41,21 @@ pub(crate) fn lu(
 pub(crate) fn solve(
     width: usize,
     file: i32,
-    buffer: &mut [u8; 4096],
+    buffer: &mut [u8; replay::BUFFER],
     place: Place,
     n: usize,
 ) -> Compared
-    requires { ⌜ (n ≤ 32) × (width ≤ 4) ⌝ }
+    requires { ⌜ (n ≤ largest.n) × (width ≤ widest) ⌝ }
 {
     let full = replay_matrices::floats_in(n, width);
     let wide = replay_matrices::floats_in_row(n, width);
-    let mut words = [7u64; 4096];
-    let mut numbers = [7u64; 32];
-    let mut matrix = [7.0f64; 4096];
-    let mut order = [7usize; 32];
-    let mut column = [7u64; 128];
-    let mut b = [7.0f64; 128];
-    let mut x = [7.0f64; 128];
+    let mut words = [7u64; replay_matrices::MOST_FLOATS];
+    let mut numbers = [7u64; refusals::LARGEST_N];
+    let mut matrix = [7.0f64; replay_matrices::MOST_FLOATS];
+    let mut order = [7usize; refusals::LARGEST_N];
+    let mut column = [7u64; replay_matrices::MOST_IN_ROW];
+    let mut b = [7.0f64; replay_matrices::MOST_IN_ROW];
+    let mut x = [7.0f64; replay_matrices::MOST_IN_ROW];
     entries::solve(
         width,
         file,
@@ -73,19 +75,19 @@ pub(crate) fn solve(
 pub(crate) fn determinant(
     width: usize,
     file: i32,
-    buffer: &mut [u8; 4096],
+    buffer: &mut [u8; replay::BUFFER],
     place: Place,
     n: usize,
     swaps: u64,
 ) -> Compared
-    requires { ⌜ (n ≤ 32) × (width ≤ 4) ⌝ }
+    requires { ⌜ (n ≤ largest.n) × (width ≤ widest) ⌝ }
 {
     let full = replay_matrices::floats_in(n, width);
-    let mut words = [7u64; 4096];
-    let mut numbers = [7u64; 32];
-    let mut matrix = [7.0f64; 4096];
-    let mut order = [7usize; 32];
-    let mut record = [7u64; 4];
+    let mut words = [7u64; replay_matrices::MOST_FLOATS];
+    let mut numbers = [7u64; refusals::LARGEST_N];
+    let mut matrix = [7.0f64; replay_matrices::MOST_FLOATS];
+    let mut order = [7usize; refusals::LARGEST_N];
+    let mut record = [7u64; replay_matrices::WIDEST];
     entries::determinant(
         width,
         file,
@@ -104,18 +106,18 @@ pub(crate) fn determinant(
 pub(crate) fn inverse(
     width: usize,
     file: i32,
-    buffer: &mut [u8; 4096],
+    buffer: &mut [u8; replay::BUFFER],
     place: Place,
     n: usize,
 ) -> Compared
-    requires { ⌜ (n ≤ 32) × (width ≤ 4) ⌝ }
+    requires { ⌜ (n ≤ largest.n) × (width ≤ widest) ⌝ }
 {
     let full = replay_matrices::floats_in(n, width);
-    let mut words = [7u64; 4096];
-    let mut numbers = [7u64; 32];
-    let mut matrix = [7.0f64; 4096];
-    let mut order = [7usize; 32];
-    let mut out = [7.0f64; 4096];
+    let mut words = [7u64; replay_matrices::MOST_FLOATS];
+    let mut numbers = [7u64; refusals::LARGEST_N];
+    let mut matrix = [7.0f64; replay_matrices::MOST_FLOATS];
+    let mut order = [7usize; refusals::LARGEST_N];
+    let mut out = [7.0f64; replay_matrices::MOST_FLOATS];
     entries::inverse(
         width,
         file,

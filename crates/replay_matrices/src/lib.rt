@@ -5,10 +5,12 @@ ghost use mathlib.Core.List.{List};
 ghost use Prim.Native.Nat.{_*_, _≤_};
 ghost use lib.ListN.{length, getD};
 ghost use lib.Ieee.{binary64, ofBits};
+ghost use Rattle.refusals.specs.Largest as largest;
 ghost use Rattle.algebra.specs.Flat.{tabulate};
 ghost use Rattle.algebra.specs.Outcome.{mapOutcome};
 ghost use Rattle.matrices.specs.Answers.{solveOutcome};
 ghost use Rattle.replay.specs.Same.{sameNumbers};
+ghost use Rattle.replay_matrices.specs.Room.{widest, mostFloats, mostInRow};
 ghost use Rattle.replay_matrices.specs.Cases.{sameFloats, zeroNumbers, zeroFloats, luNumbers, sameLu, sameOutcome};
 use matrices::LuAnswer;
 use matrices::SolveAnswer;
@@ -19,18 +21,25 @@ pub struct Numbers {
     pub swaps_or_column: u64,
 }
 
+// The floats of the widest record that matrices are of, `HyperDual`, and of the largest matrix and row of it.
+pub const WIDEST: usize = 4;
+
+pub const MOST_FLOATS: usize = refusals::LARGEST_N * MOST_IN_ROW;
+
+pub const MOST_IN_ROW: usize = refusals::LARGEST_N * WIDEST;
+
 // How many floats a matrix of n by n records has.
 pub fn floats_in(n: usize, width: usize) -> usize
-    requires { ⌜ (n ≤ 32) × (width ≤ 4) ⌝ }
-    ensures { λ r. ⌜ (r ≡ n * n * width) × (r ≤ 4096) ⌝ }
+    requires { ⌜ (n ≤ largest.n) × (width ≤ widest) ⌝ }
+    ensures { λ r. ⌜ (r ≡ n * n * width) × (r ≤ mostFloats) ⌝ }
 {
     n * n * width
 }
 
 // How many floats a row of n records has.
 pub fn floats_in_row(n: usize, width: usize) -> usize
-    requires { ⌜ (n ≤ 32) × (width ≤ 4) ⌝ }
-    ensures { λ r. ⌜ (r ≡ n * width) × (r ≤ 128) ⌝ }
+    requires { ⌜ (n ≤ largest.n) × (width ≤ widest) ⌝ }
+    ensures { λ r. ⌜ (r ≡ n * width) × (r ≤ mostInRow) ⌝ }
 {
     n * width
 }

@@ -6,6 +6,7 @@ use hyperdual::HyperDual;
 use hyperhyperdual::HyperHyperDual;
 ghost use mathlib.Core.Path.{_≡_};
 ghost use Prim.Native.Nat.{_≤_, _<_};
+ghost use Rattle.refusals.specs.Largest as largest;
 ghost use Rattle.replay_records.specs.Kinds.{byKind, calledBy, summedBy, multipliedBy, nderivOf, sameMethodOf};
 
 pub(crate) enum Kind {
@@ -18,7 +19,7 @@ pub(crate) enum Kind {
 
 // How many parts a record has.
 pub(crate) fn parts(kind: Kind) -> usize
-    ensures { λ r. ⌜ (r ≡ byKind (λ R K. K .layout .width) kind) × ((0 < r) × (r ≤ 8)) ⌝ }
+    ensures { λ r. ⌜ (r ≡ byKind (λ R K. K .layout .width) kind) × ((0 < r) × (r ≤ largest.width)) ⌝ }
 {
     match kind {
         Kind::Dual => 2,

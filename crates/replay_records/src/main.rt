@@ -60,13 +60,13 @@ fn case_of(
 fn case(
     kind: Kind,
     file: i32,
-    buffer: &mut [u8; 4096],
+    buffer: &mut [u8; replay::BUFFER],
     place: Place,
     pool: &[u64; 256],
     last: u64,
     count: Tally,
 ) -> Told {
-    let mut words = [0u64; 96];
+    let mut words = [0u64; replay_table::WORDS];
     let mut outside = [0u64; 2];
     let mut answer = [0u64; 16];
     let parts = kinds::parts(kind);
@@ -86,7 +86,7 @@ fn case(
     let size = c.answer;
     let function = c.function;
     let told = function != last || count.different == 0;
-    let mut run = [0.0f64; 96];
+    let mut run = [0.0f64; replay_table::WORDS];
     let mut left = [0.0f64; 16];
     let mut out = [0u64; 16];
     let same = case_of(
@@ -112,7 +112,7 @@ fn case(
 
 // Every case: a line for each function, as they come.
 fn cases(kind: Kind, file: i32) -> Tally {
-    let mut buffer = [0u8; 4096];
+    let mut buffer = [0u8; replay::BUFFER];
     let mut pool = [0u64; 256];
     let begun = tally::begin(file, &mut buffer);
     let place = begun.place;

@@ -1,8 +1,8 @@
 // The call of a case, and what came of it. The numbers of a case (oracle/README.md): the entry; n or the kind; the style of the inputs; the lengths of the two inputs, the
 // order, the result and the values; of the order the two places that are exchanged, the one that is set, and its value (or powi's exponent); the count, the limit or the function.
-use super::Outcome;
-use super::filling;
-use super::lent;
+use replay_outcomes::Outcome;
+use replay_outcomes::filling;
+use replay_outcomes::lent;
 
 // What is lent to be written holds before the call.
 const BEFORE: f64 = -7.25;
@@ -240,11 +240,11 @@ fn call_over_floats(c: &[u64; 16]) -> Outcome {
     let rows = lent::few(c[5]);
     let result = lent::floats(c[6]);
     let values = lent::floats(c[7]);
-    let mut inputs = [0.0f64; 4625];
-    let mut others = [0.0f64; 4625];
-    let mut order = [99usize; 64];
-    let mut results = [BEFORE; 4625];
-    let mut eigenvalues = [BEFORE; 4625];
+    let mut inputs = [0.0f64; lent::MOST_FLOATS];
+    let mut others = [0.0f64; lent::MOST_FLOATS];
+    let mut order = [99usize; lent::FEW];
+    let mut results = [BEFORE; lent::MOST_FLOATS];
+    let mut eigenvalues = [BEFORE; lent::MOST_FLOATS];
     over_floats(
         c,
         &mut inputs[..first],
@@ -269,9 +269,9 @@ fn call_over_words(c: &[u64; 16]) -> Outcome {
     let first = lent::few(c[3]);
     let second = lent::few(c[4]);
     let result = lent::few(c[6]);
-    let mut inputs = [0u64; 64];
-    let mut others = [0u64; 64];
-    let mut results = [BEFORE_WORD; 64];
+    let mut inputs = [0u64; lent::FEW];
+    let mut others = [0u64; lent::FEW];
+    let mut results = [BEFORE_WORD; lent::FEW];
     over_words(
         c,
         &mut inputs[..first],

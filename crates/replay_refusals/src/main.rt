@@ -1,39 +1,21 @@
 // Replays refusals.txt (oracle/README.md): calls that are refused, and their neighbours that are not, through the library's exports. Each must give document 01's
 // number, and leave what it is lent as the number says: as it was, or with the Rust's answer.
 mod entries;
-mod filling;
-mod lent;
 
 use replay::Place;
 use replay::Read;
 use replay::tally;
 use replay::tally::Compared;
 use replay::tally::Tally;
-ghost use mathlib.Core.Path.{_≡_};
-ghost use Rattle.replay_refusals.specs.Outcome.{sameOutcome};
-
-// What comes of a call: its number, what stands beside it, and one word of all that was lent to be written.
-pub(crate) struct Outcome {
-    pub number: u64,
-    pub beside: u64,
-    pub digest: u64,
-}
-
-// Whether what came of a call is what was recorded.
-fn same(wanted: Outcome, got: Outcome) -> bool
-    ensures { λ r. ⌜ r ≡ sameOutcome wanted got ⌝ }
-{
-    if wanted.number != got.number {
-        return false;
-    }
-    if wanted.beside != got.beside {
-        return false;
-    }
-    wanted.digest == got.digest
-}
+use replay_outcomes::Outcome;
 
 // The next numbers of the file, of one to sixteen digits each.
-fn read_numbers(file: i32, buffer: &mut [u8; 4096], place: Place, numbers: &mut [u64; 16]) -> Read {
+fn read_numbers(
+    file: i32,
+    buffer: &mut [u8; replay::BUFFER],
+    place: Place,
+    numbers: &mut [u64; 16],
+) -> Read {
     let mut here = place;
     let mut whole = true;
     let mut i = 0usize;
@@ -50,7 +32,7 @@ fn read_numbers(file: i32, buffer: &mut [u8; 4096], place: Place, numbers: &mut 
 }
 
 // One case: a call's numbers, and what must come of it.
-fn case(file: i32, buffer: &mut [u8; 4096], place: Place) -> Compared {
+fn case(file: i32, buffer: &mut [u8; replay::BUFFER], place: Place) -> Compared {
     let mut numbers = [0u64; 16];
     let read = read_numbers(file, buffer, place, &mut numbers);
     let place = read.place;
@@ -63,13 +45,13 @@ fn case(file: i32, buffer: &mut [u8; 4096], place: Place) -> Compared {
     Compared {
         place,
         whole: read.whole,
-        same: same(wanted, got),
+        same: replay_outcomes::same(wanted, got),
     }
 }
 
 // Every case.
 fn cases(file: i32) -> Tally {
-    let mut buffer = [0u8; 4096];
+    let mut buffer = [0u8; replay::BUFFER];
     let mut run = tally::begin(file, &mut buffer);
     while run.left > 0 {
         let place = run.place;

@@ -15,7 +15,7 @@ fn same_root(word: u64, root: f64) -> bool
 }
 
 // One line.
-fn case(file: i32, buffer: &mut [u8; 4096], place: Place) -> Compared {
+fn case(file: i32, buffer: &mut [u8; replay::BUFFER], place: Place) -> Compared {
     let mut words = [0u64; 2];
     let read = replay::read_words(file, buffer, place, 16, &mut words);
     let place = read.place;
@@ -29,7 +29,7 @@ fn case(file: i32, buffer: &mut [u8; 4096], place: Place) -> Compared {
 
 // Every line.
 fn cases(file: i32) -> Tally {
-    let mut buffer = [0u8; 4096];
+    let mut buffer = [0u8; replay::BUFFER];
     let mut run = tally::begin(file, &mut buffer);
     while run.left > 0 {
         let place = run.place;

@@ -5,9 +5,14 @@ use mathlib.Core.List.{List, [], _∷_}
 use lib.Dec.{eqb, leb}
 use lib.IntN.{ℤ, pos, negsuc}
 use lib.ListN.{length, getD}
+use Rattle.refusals.specs.Largest as largest
 use Rattle.algebra.specs.Flat.{tabulate}
 use Rattle.replay.specs.Same.{sameNumbers}
 use Rattle.replay_table.specs.declared.Shape.{Shape}
+
+-- the words of the longest run: twelve records of the widest
+abbrev pub mostWords : ℕ
+mostWords = 12 * largest.width
 
 -- from number 00 on, in four digits each: how many records (f: the case says how many), exponents and floats a case has, and how many records its answer has
 -- (0: it is a whole number)

@@ -5,13 +5,14 @@ use replay::Place;
 ghost use mathlib.Core.Path.{_≡_};
 ghost use Prim.Native.Nat.{_≤_, _<_, min};
 ghost use lib.ListN.{length};
+ghost use Rattle.refusals.specs.Largest as largest;
 ghost use Rattle.replay_table.specs.Table.{shapeOf, answerWords, recordOf, exponentOf, truthOf, sameAnswer};
 
 // A run says itself how many records it has.
 pub(crate) const RUN: u64 = 15;
 
-// A run has at most 12 records of at most 8 parts.
-pub(crate) const WORDS: usize = 96;
+// The words of the longest run: twelve records of the widest.
+pub const WORDS: usize = 96;
 
 // How many fields of each sort a case has, and how many records its answer has: none is a whole number.
 pub struct Shape {
@@ -128,7 +129,7 @@ pub fn shape_of(function: u64) -> Shape
 
 // How many words an answer has.
 pub fn answer_words(answers: u64, parts: usize) -> usize
-    requires { ⌜ (0 < parts) × (parts ≤ 8) ⌝ }
+    requires { ⌜ (0 < parts) × (parts ≤ largest.width) ⌝ }
     ensures { λ r. ⌜ (r ≡ answerWords answers parts) × ((0 < r) × (r ≤ 16)) ⌝ }
 {
     match answers {
@@ -150,7 +151,7 @@ pub(crate) fn float_count(floats: u64) -> usize
 
 // The words of a record of places, as many as are lent.
 pub fn record_of(pool: &[u64; 256], places: u64, out: &mut [u64])
-    requires { ⌜ length (now out) ≤ 8 ⌝ }
+    requires { ⌜ length (now out) ≤ largest.width ⌝ }
     ensures { λ _. ⌜ now (out .exit) ≡ recordOf (now (pool .entry)) places (length (now (out .entry))) ⌝ }
 {
     let mut i = 0usize;

@@ -7,6 +7,8 @@ use replay::Place;
 ghost use mathlib.Core.Path.{_≡_};
 ghost use Prim.Native.Nat.{_≤_, _<_};
 ghost use lib.ListN.{length};
+ghost use Rattle.refusals.specs.Largest as largest;
+ghost use Rattle.replay_table.specs.Table.{mostWords};
 
 // One word of so many digits, where there is to be one.
 struct Field {
@@ -15,7 +17,13 @@ struct Field {
     place: Place,
 }
 
-fn read_field(file: i32, buffer: &mut [u8; 4096], place: Place, digits: u32, count: u64) -> Field {
+fn read_field(
+    file: i32,
+    buffer: &mut [u8; replay::BUFFER],
+    place: Place,
+    digits: u32,
+    count: u64,
+) -> Field {
     if count == 0 {
         return Field {
             word: 0,
@@ -41,15 +49,15 @@ struct Records {
 
 fn read_records(
     file: i32,
-    buffer: &mut [u8; 4096],
+    buffer: &mut [u8; replay::BUFFER],
     place: Place,
     pool: &[u64; 256],
     count: u64,
     parts: usize,
     words: &mut [u64],
 ) -> Records
-    requires { ⌜ (parts ≤ 8) × (length (now words) ≡ 96) ⌝ }
-    ensures { λ r. ⌜ r .length ≤ 96 ⌝ }
+    requires { ⌜ (parts ≤ largest.width) × (length (now words) ≡ mostWords) ⌝ }
+    ensures { λ r. ⌜ r .length ≤ mostWords ⌝ }
 {
     let mut here = place;
     let mut whole = true;
@@ -88,7 +96,7 @@ struct Head {
     place: Place,
 }
 
-fn read_head(file: i32, buffer: &mut [u8; 4096], place: Place) -> Head {
+fn read_head(file: i32, buffer: &mut [u8; replay::BUFFER], place: Place) -> Head {
     let name = read_field(file, buffer, place, 2, 1);
     let place = name.place;
     let shape = crate::shape_of(name.word);
@@ -120,7 +128,7 @@ struct Middle {
 
 fn read_middle(
     file: i32,
-    buffer: &mut [u8; 4096],
+    buffer: &mut [u8; replay::BUFFER],
     place: Place,
     shape: Shape,
     floats: &mut [u64],
@@ -148,7 +156,7 @@ fn read_middle(
 // Reads a case of a record with so many parts: the words of its records, its floats and its answer to the start of the lent buffers.
 pub fn read_case(
     file: i32,
-    buffer: &mut [u8; 4096],
+    buffer: &mut [u8; replay::BUFFER],
     place: Place,
     pool: &[u64; 256],
     parts: usize,
@@ -156,9 +164,9 @@ pub fn read_case(
     floats: &mut [u64],
     answer: &mut [u64],
 ) -> Case
-    requires { ⌜ (0 < parts) × (parts ≤ 8) ⌝ }
-    requires { ⌜ (length (now words) ≡ 96) × ((length (now floats) ≡ 2) × (length (now answer) ≡ 16)) ⌝ }
-    ensures { λ r. ⌜ (r .records ≤ 96) × ((r .floats ≤ 2) × ((0 < r .answer) × (r .answer ≤ 16))) ⌝ }
+    requires { ⌜ (0 < parts) × (parts ≤ largest.width) ⌝ }
+    requires { ⌜ (length (now words) ≡ mostWords) × ((length (now floats) ≡ 2) × (length (now answer) ≡ 16)) ⌝ }
+    ensures { λ r. ⌜ (r .records ≤ mostWords) × ((r .floats ≤ 2) × ((0 < r .answer) × (r .answer ≤ 16))) ⌝ }
 {
     let head = read_head(file, buffer, place);
     let place = head.place;

@@ -3,20 +3,21 @@ use borrow.Author.Needs.{needs}
 use denote.Ref.{now}
 use Rattle.dual.specs.Rules.{dualAlgebra, dualLayout}
 use Rattle.refusals.specs.Largest as largest
+use Rattle.jacobi.specs.Scratch.{smallN}
 use Rattle.jacobi.proofs.Answered.{jacobi-allowed, jacobi-small, jacobi-answers}
 use Rattle.jacobi.proofs.Slopes.{jacobi-refused}
 use Rattle.jacobi.proofs.jacobi_eigenvalue.Statement.{statement}
 use Rattle.jacobi.proofs.jacobi_eigenvalue.Tie as tie
 
--- a call that is not refused may run: n was found to be at most 8
-run-up-to-8-requires : tie.Need-run-up-to-8-requires
-run-up-to-8-requires c κs =
+-- a call that is not refused may run: n was found to be small
+run-small-requires : tie.Need-run-small-requires
+run-small-requires c κs =
     let at = c .before .before .before in
-    jacobi-allowed _ _ _ (now (at .before .before .before .before .before .args .values)) _ _ (at .before .refusal .ensures) (at .if1 .left) 8 (c .before .before .if2 .taken)
+    jacobi-allowed _ _ _ (now (at .before .before .before .before .before .args .values)) _ _ (at .before .refusal .ensures) (at .if1 .left) smallN (c .before .before .if2 .taken)
 
--- and else is at most 32
-run-up-to-32-requires : tie.Need-run-up-to-32-requires
-run-up-to-32-requires c κs =
+-- and else is at most the largest
+run-large-requires : tie.Need-run-large-requires
+run-large-requires c κs =
     let at = c .before .before .before in
     let s = at .before .before .before .before .before .args in
     jacobi-allowed _ _ _ (now (s .values)) _ _ (at .before .refusal .ensures) (at .if1 .left) largest.n (jacobi-small (s .n) (now (s .a)) (s .limit) (now (s .values)) (now (s .vectors)) _ (at .before .refusal .ensures) (at .if1 .left))
@@ -27,8 +28,8 @@ jacobi-eigenvalue-spec =
     (tie.spec
     (λ c κs. search needs)
     (λ c. search (needs, jacobi-refused dualAlgebra dualLayout))
-    run-up-to-8-requires
-    run-up-to-32-requires
+    run-small-requires
+    run-large-requires
     (λ c. search needs) (λ c. search needs)
     (λ c. search (needs, jacobi-answers))
     (λ c. search needs) (λ c. search needs)

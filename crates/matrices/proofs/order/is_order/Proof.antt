@@ -6,6 +6,7 @@ use mathlib.Core.List.{List}
 use native.Mathlib.Omega.{arith}
 use lib.ListN.{length, getD}
 use borrow.Author.Needs.{needs}
+use Rattle.refusals.specs.Largest as largest
 use Rattle.matrices.specs.Order.{isOrder}
 use Rattle.matrices.specs.Walk.{marksWith, isFull}
 use Rattle.matrices.specs.declared.Marks.{Marks}
@@ -24,11 +25,11 @@ stop : (n : ℕ) (o : List ℕ) (m : Marks) (i : ℕ) → Marking n o m i → i 
 stop n o m i k h long past = sym (mark-stop n o m i k (omega arith) past)
 
 -- an entry below n has its bits
-bit : (n x : ℕ) → n ≤ 32 → (n ≤ x → ⊥) → x < 32
+bit : (n x : ℕ) → n ≤ largest.n → (n ≤ x → ⊥) → x < largest.n
 bit n x small below = omega arith
 
 -- an entry is marked, and the walk is one further
-turn : {n : ℕ} {o : List ℕ} {m : Marks} {i : ℕ} → Marking n o m i → (m′ : Marks) → i < n → n ≤ 32 → length o ≡ n → (n ≤ getD o i 0 → ⊥) → m′ ≡ marksWith m (getD o i 0) → Marking n o m′ (i + 1)
+turn : {n : ℕ} {o : List ℕ} {m : Marks} {i : ℕ} → Marking n o m i → (m′ : Marks) → i < n → n ≤ largest.n → length o ≡ n → (n ≤ getD o i 0 → ⊥) → m′ ≡ marksWith m (getD o i 0) → Marking n o m′ (i + 1)
 turn {n} {o} {m} {i} k m′ h small long below em = subst (λ (t : Marks). Marking n o t (i + 1)) (sym em) (mark-turn n o m i k (omega arith) (omega arith) small)
 
 -- all walked: the word decides

@@ -5,16 +5,17 @@ use lib.Bits.{bitXor}
 use lib.Pow.{pow-pos, shl-exact}
 use native.Mathlib.Omega.{arith}
 use borrow.Author.Needs.{needs}
+use Rattle.refusals.specs.Largest as largest
 use Rattle.matrices.specs.Walk.{markOf}
 use Rattle.matrices.proofs.order.mark.Statement.{statement}
 use Rattle.matrices.proofs.order.mark.Tie as tie
 
 -- the shift loses nothing, as x is below 32
-shifted : (x : ℕ) → x < 32 → 4294967297 * 2 ^ x % 2 ^ 64 ≡ 4294967297 * 2 ^ x
+shifted : (x : ℕ) → x < largest.n → 4294967297 * 2 ^ x % 2 ^ 64 ≡ 4294967297 * 2 ^ x
 shifted x h = shl-exact 33 x 64 (omega arith) (omega arith)
 
 -- so that the code's word is the definition's
-mark-by : (x : ℕ) → x < 32 → 4294967297 * 2 ^ x % 2 ^ 64 - 1 ≡ markOf x
+mark-by : (x : ℕ) → x < largest.n → 4294967297 * 2 ^ x % 2 ^ 64 - 1 ≡ markOf x
 mark-by x h = let e = shifted x h in let p = pow-pos x in omega arith
 
 -- what is shifted is not zero

@@ -1,4 +1,4 @@
--- Each buffer has what is lent of it: n is at most 32, the width at most 4.
+-- Each buffer has what is lent of it: it has it at the largest n and the widest record.
 use mathlib.Core.Path.{sym}
 use lib.Seq.{length-take-le}
 use borrow.Author.Needs.{needs}

@@ -1,0 +1,2 @@
+-- What the outcomes are proved with.
+pub mod Join

@@ -1,0 +1,3 @@
+-- What comes of a call, and how much is lent to it. Definitions only.
+pub mod Outcome
+pub mod Lent

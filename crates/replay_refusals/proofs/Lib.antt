@@ -1,2 +1,0 @@
--- What the refusals' replay is proved with.
-pub mod Join

@@ -1,2 +1,0 @@
--- What the promises of the refusals' replay are written with. Definitions only.
-pub mod Outcome
