@@ -16,7 +16,7 @@ use Rattle.calls.specs.declared.ByFloat.{ByFloat}
 use Rattle.calls.specs.declared.Operation.{Operation}
 use Rattle.calls.specs.declared.Call.{Call}
 use Rattle.calls.specs.declared.Call.the-variants.{Unknown, Truth, SinCos, Record}
-use Rattle.calls.specs.Words.{wordsOf}
+use Rattle.floats.specs.Words.{wordsOf}
 use Rattle.calls.specs.Called.{Kind, Sized, sizeOf, holds, truth, unaryOf, binaryOf, byFloatOf, operateOf, answerOf, leaves}
 
 -- what gives a truth; the sign is asked for first

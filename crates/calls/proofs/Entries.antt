@@ -22,7 +22,7 @@ use Rattle.calls.specs.declared.Operation.the-variants as operation
 use Rattle.calls.specs.declared.Call.{Call}
 use Rattle.calls.specs.declared.Call.the-variants.{Record}
 use Rattle.calls.specs.Table.{line, lineOf}
-use Rattle.calls.specs.Words.{firstFloats, wordsOf}
+use Rattle.floats.specs.Words.{firstFloats, wordsOf}
 use Rattle.calls.specs.Called.{Kind, fitting, callOf, calledOf, operatedOf, binaryNumber, binaryOf, answerOf, lentRecord, leaves, joinedLeft, summedOf, multipliedOf}
 use Rattle.calls.proofs.Lent.{lent, one-written, two-written}
 

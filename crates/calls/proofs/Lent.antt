@@ -11,7 +11,7 @@ use Rattle.algebra.specs.Flat.{Layout, recordAt, decode, encode}
 use Rattle.algebra.proofs.Laws.{Laws}
 use Rattle.algebra.proofs.Flat.{tabulate-length, tabulate-at}
 use Rattle.algebra.proofs.Cells.{holds, parts-of, read-at}
-use Rattle.calls.specs.Words.{floatsOf, firstFloats}
+use Rattle.floats.specs.Words.{floatsOf, firstFloats}
 
 -- A record that the reader gives of the first floats of the words is the one that the words hold.
 module _ {R : Type 0} {A : Algebra R} {L : Layout R} (Q : Laws A L) (words : List ℕ) (l : List Float) (count : ℕ) (first : l ≡ firstFloats words count) where

@@ -28,7 +28,7 @@ use Rattle.calls.specs.declared.Call.{Call}
 use Rattle.calls.specs.declared.Call.the-variants.{Unknown, Truth, SinCos, Record}
 use Rattle.calls.specs.declared.Line.{Line}
 use Rattle.calls.specs.Table.{lineOf}
-use Rattle.calls.specs.Words.{floatsOf, wordsOf}
+use Rattle.floats.specs.Words.{floatsOf, wordsOf}
 
 -- A record type by what calls use of it: its operations, its layout in flat floats, and `derivative`, `derivative1`, .. by function number, refused 2 where the
 -- record has no such one.

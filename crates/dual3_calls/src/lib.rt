@@ -6,7 +6,7 @@ use calls::Operation;
 use calls::Unary;
 use calls::predicates;
 use calls::table;
-use calls::words;
+use floats::words;
 use dual3::Dual3;
 use dual3::Dual3Answer;
 use dual3::Dual3SinCos;
@@ -16,7 +16,7 @@ ghost use Prim.Native.Nat.{_+_};
 ghost use lib.ListN.{length};
 ghost use Rattle.algebra.specs.Outcome.{mapOutcome};
 ghost use Rattle.dual3.specs.Rules.{dual3Layout, outcome};
-ghost use Rattle.calls.specs.Words.{wordsOf};
+ghost use Rattle.floats.specs.Words.{wordsOf};
 ghost use Rattle.calls.specs.Called.{Sized, unaryOf, binaryOf, byFloatOf, operateOf, answerOf, leaves, calledOf, operatedOf, joinedLeft, summedOf, multipliedOf};
 ghost use Rattle.dual3_calls.specs.Kind.{dual3Kind, dual3Derivatives};
 

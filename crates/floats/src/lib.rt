@@ -1,4 +1,6 @@
-// Lent floats: copied and cleared.
+// Lent floats: copied and cleared here, by their words in words.rt.
+pub mod words;
+
 ghost use mathlib.Core.Path.{_≡_};
 ghost use lib.ListN.{length, replicate};
 ghost use Rattle.real.specs.Operations as float;

@@ -131,7 +131,7 @@ fn case_of(
 ) -> Compared {
     let matrix = replay::read_words(file, buffer, place, 16, words);
     let place = matrix.place;
-    replay_matrices::floats_of(words, a);
+    floats::words::read(words, a);
     let eigenvalues = replay::read_words(file, buffer, place, 16, values);
     let place = eigenvalues.place;
     let vectors = replay::read_words(file, buffer, place, 16, words);

@@ -21,7 +21,7 @@ fn read_factors(
     let place = second.place;
     let whole = first.whole && second.whole;
     replay_matrices::order_of(numbers, order);
-    replay_matrices::floats_of(words, factors);
+    floats::words::read(words, factors);
     Read { place, whole }
 }
 
@@ -62,7 +62,7 @@ pub(crate) fn lu(
 ) -> Compared {
     let matrix = replay::read_words(file, buffer, place, 16, words);
     let place = matrix.place;
-    replay_matrices::floats_of(words, a);
+    floats::words::read(words, a);
     let left = read_left(file, buffer, place, wanted.number, words, numbers);
     let place = left.place;
     let whole = matrix.whole && left.whole;
@@ -89,7 +89,7 @@ pub(crate) fn solve(
     let place = given.place;
     let right = replay::read_words(file, buffer, place, 16, column);
     let place = right.place;
-    replay_matrices::floats_of(column, b);
+    floats::words::read(column, b);
     let solution = replay::read_words(file, buffer, place, 16, column);
     let place = solution.place;
     let whole = given.whole && right.whole && solution.whole;

@@ -54,17 +54,6 @@ fn word_at(words: &[u64], i: usize) -> u64
     0
 }
 
-// The floats of the words, as many as are lent.
-pub fn floats_of(words: &[u64], floats: &mut [f64])
-    ensures { λ _. ⌜ now (floats .exit) ≡ tabulate (λ i. ofBits binary64 (getD (now (words .entry)) i 0)) (length (now (floats .entry))) 0 ⌝ }
-{
-    let mut i = 0usize;
-    while i < floats.len() {
-        floats[i] = real::float_of_word(word_at(words, i));
-        i += 1;
-    }
-}
-
 // The words as the entries of an order, as many as are lent.
 pub fn order_of(words: &[u64], order: &mut [usize])
     ensures { λ _. ⌜ now (order .exit) ≡ tabulate (λ i. getD (now (words .entry)) i 0) (length (now (order .entry))) 0 ⌝ }

@@ -9,7 +9,7 @@ use lib.Ieee.{Float}
 use Rattle.algebra.specs.Algebra.{Algebra, zeroOf}
 use Rattle.algebra.specs.Flat.{Layout, recordAt, decode}
 use Rattle.algebra.proofs.Laws.{Laws}
-use Rattle.calls.specs.Words.{floatsOf, firstFloats}
+use Rattle.floats.specs.Words.{floatsOf, firstFloats}
 use Rattle.calls.proofs.Lent.{lent}
 use Rattle.calls.proofs.Numbered.{Missing, none}
 use Rattle.replay_matrices.specs.Cases.{sameFloats}

@@ -10,7 +10,7 @@ use Rattle.algebra.specs.Algebra.{Algebra, zeroOf, oneOf}
 use Rattle.algebra.specs.Flat.{Layout}
 use Rattle.derivatives.specs.Apply.{recipOf, sqrtOf}
 use Rattle.calls.specs.Table.{find}
-use Rattle.calls.specs.Words.{floatsOf}
+use Rattle.floats.specs.Words.{floatsOf}
 use Rattle.replay.specs.Same.{sameNumbers}
 use Rattle.replay_matrices.specs.Cases.{sameFloats}
 

@@ -1,9 +1,9 @@
 // `Dual2`: the record of the words, and what its methods answer.
-use calls::words;
+use floats::words;
 use dual2::Dual2;
 ghost use mathlib.Core.Path.{_≡_};
 ghost use Rattle.algebra.specs.Flat.{recordAt};
-ghost use Rattle.calls.specs.Words.{floatsOf};
+ghost use Rattle.floats.specs.Words.{floatsOf};
 ghost use Rattle.dual2.specs.Rules.{dual2Algebra, dual2Layout};
 ghost use Rattle.replay_matrices.specs.Cases.{sameFloats};
 ghost use Rattle.replay_methods.specs.Methods.{floatAt, sameMethod};

@@ -1,9 +1,9 @@
 // `Dual3`: the record of the words, and what its methods answer.
-use calls::words;
+use floats::words;
 use dual3::Dual3;
 ghost use mathlib.Core.Path.{_≡_};
 ghost use Rattle.algebra.specs.Flat.{recordAt};
-ghost use Rattle.calls.specs.Words.{floatsOf};
+ghost use Rattle.floats.specs.Words.{floatsOf};
 ghost use Rattle.dual3.specs.Rules.{dual3Algebra, dual3Layout};
 ghost use Rattle.replay_matrices.specs.Cases.{sameFloats};
 ghost use Rattle.replay_methods.specs.Methods.{floatAt, sameMethod};

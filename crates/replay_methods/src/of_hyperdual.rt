@@ -1,9 +1,9 @@
 // `HyperDual`: the record of the words, and what its methods answer.
-use calls::words;
+use floats::words;
 use hyperdual::HyperDual;
 ghost use mathlib.Core.Path.{_≡_};
 ghost use Rattle.algebra.specs.Flat.{recordAt};
-ghost use Rattle.calls.specs.Words.{floatsOf};
+ghost use Rattle.floats.specs.Words.{floatsOf};
 ghost use Rattle.hyperdual.specs.Rules.{hyperDualAlgebra, hyperDualLayout};
 ghost use Rattle.replay_matrices.specs.Cases.{sameFloats};
 ghost use Rattle.replay_methods.specs.Methods.{floatAt, sameMethod};

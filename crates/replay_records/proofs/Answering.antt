@@ -11,7 +11,7 @@ use mir.Val.{SFits, toZ, ofZ}
 use mir.ValLaws.{toZ-ofZ}
 use borrow.Author.Tests.{eq-eqb, ne-eqb, lt-ltb, le-ltb}
 use Rattle.algebra.specs.Flat.{tabulate}
-use Rattle.calls.specs.Words.{wordsOf}
+use Rattle.floats.specs.Words.{wordsOf}
 use Rattle.replay_table.specs.Table.{truthOf, sameAnswer}
 use Rattle.replay_records.specs.declared.kinds.Kind.{Kind}
 use Rattle.replay_records.specs.Kinds.{calledBy, summedBy, multipliedBy, nderivOf, joinedOf, answerOf, sameMethodOf, sameRecorded}

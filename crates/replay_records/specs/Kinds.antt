@@ -9,7 +9,7 @@ use lib.Ieee.{Float, binary64, ofBits}
 use Rattle.algebra.specs.Flat.{tabulate}
 use Rattle.calls.specs.Called.{calledOf, summedOf, multipliedOf, lentRecord}
 use Rattle.calls.specs.Called as calls
-use Rattle.calls.specs.Words.{wordsOf}
+use Rattle.floats.specs.Words.{wordsOf}
 use Rattle.dual_calls.specs.Kind.{dualKind}
 use Rattle.dual2_calls.specs.Kind.{dual2Kind}
 use Rattle.dual3_calls.specs.Kind.{dual3Kind}

@@ -1,7 +1,7 @@
 // What a record type answers to a case, by its function's number (oracle/README.md), and whether it is what the file has.
 use crate::kinds;
 use crate::kinds::Kind;
-use calls::words;
+use floats::words;
 ghost use mathlib.Core.Path.{_≡_};
 ghost use mathlib.Core.Bool.{_&&_};
 ghost use Prim.Native.Nat.{_<_};
@@ -30,7 +30,7 @@ fn joined(
     requires { ⌜ length (now out) ≡ length (now left) ⌝ }
     ensures { λ r. ⌜ (r, now (out .exit)) ≡ joinedOf kind function (now (records .entry)) (length (now (run .entry))) (now (left .entry)) ⌝ }
 {
-    replay_matrices::floats_of(records, run);
+    words::read(records, run);
     if function == SUM {
         let number = kinds::sum(kind, run, left);
         words::put(left, out);

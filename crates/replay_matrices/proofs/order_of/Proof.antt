@@ -2,7 +2,7 @@
 use borrow.Author.Needs.{needs}
 use Prim.Native.Nat.{_-_}
 use lib.ListN.{length, getD}
-use Rattle.replay_matrices.proofs.Filling.{Filling, filling-none, filling-more, filling-all}
+use Rattle.floats.proofs.Fill.{Filling, filling-none, filling-more, filling-all}
 use Rattle.replay_matrices.proofs.order_of.Statement.{statement}
 use Rattle.replay_matrices.proofs.order_of.Tie as tie
 

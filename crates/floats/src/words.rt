@@ -3,7 +3,7 @@ ghost use mathlib.Core.Path.{_≡_};
 ghost use mathlib.Core.List.{[], _∷_};
 ghost use lib.ListN.{length, getD};
 ghost use Rattle.real.specs.Operations as float;
-ghost use Rattle.calls.specs.Words.{floatsOf, firstFloats, wordsOf};
+ghost use Rattle.floats.specs.Words.{floatsOf, firstFloats, wordsOf};
 
 // The float of word number i, +0.0 where there is none.
 pub fn part(words: &[u64], i: usize) -> f64

@@ -1,0 +1,2 @@
+-- What the contracts of lent floats are written with. Definitions only.
+pub mod Words
