@@ -3,15 +3,14 @@ use Prim.Native.Nat.{ℕ, _%_, _≤_, _<_}
 use mathlib.Core.Path.{_≡_, sym, _∙_}
 use mathlib.Core.Bool.{Bool, true, false, _&&_}
 use mathlib.Core.List.{List}
-use lib.Ieee.{Float, binary64, ofBits}
+use lib.Ieee.{Float}
 use lib.IntN.{ℤ}
 use lib.ListN.{getD, set}
 use mir.Syntax.{w32}
 use mir.Val.{SFits, toZ, ofZ}
 use mir.ValLaws.{toZ-ofZ}
 use borrow.Author.Tests.{eq-eqb, ne-eqb, lt-ltb, le-ltb}
-use Rattle.algebra.specs.Flat.{tabulate}
-use Rattle.floats.specs.Words.{wordsOf}
+use Rattle.floats.specs.Words.{firstFloats, wordsOf}
 use Rattle.replay_table.specs.Table.{truthOf, sameAnswer}
 use Rattle.replay_records.specs.declared.kinds.Kind.{Kind}
 use Rattle.replay_records.specs.Kinds.{calledBy, summedBy, multipliedBy, nderivOf, joinedOf, answerOf, sameMethodOf, sameRecorded}
@@ -22,12 +21,12 @@ module _ (number : ℕ) (words : List ℕ) (left : List Float) where
   in-words given e h = rw (← e, h)
 
 module _ (kind : Kind) (function : ℕ) (records : List ℕ) (count : ℕ) (lent : List Float) (run : List Float) (number : ℕ) (left : List Float) (words : List ℕ) where
-  pub joins-sum : function ≡ 0x39 → run ≡ tabulate (λ i. ofBits binary64 (getD records i 0)) count 0 → (number, left) ≡ summedBy kind run lent
+  pub joins-sum : function ≡ 0x39 → run ≡ firstFloats records count → (number, left) ≡ summedBy kind run lent
       → words ≡ wordsOf left → (number, words) ≡ joinedOf kind function records count lent
   unfolding joinedOf
   joins-sum told e f h = rw (eq-eqb _ _ told) (in-words number words left _ (rw e at f) h)
 
-  pub joins-product : (function ≡ 0x39 → ⊥) → run ≡ tabulate (λ i. ofBits binary64 (getD records i 0)) count 0 → (number, left) ≡ multipliedBy kind run lent
+  pub joins-product : (function ≡ 0x39 → ⊥) → run ≡ firstFloats records count → (number, left) ≡ multipliedBy kind run lent
       → words ≡ wordsOf left → (number, words) ≡ joinedOf kind function records count lent
   unfolding joinedOf
   joins-product told e f h = rw (ne-eqb _ _ told) (in-words number words left _ (rw e at f) h)

@@ -5,11 +5,10 @@ use mathlib.Core.List.{List}
 use lib.Dec.{eqb, ltb}
 use lib.IntN.{ℤ}
 use lib.ListN.{getD, set}
-use lib.Ieee.{Float, binary64, ofBits}
-use Rattle.algebra.specs.Flat.{tabulate}
+use lib.Ieee.{Float}
 use Rattle.calls.specs.Called.{calledOf, summedOf, multipliedOf, lentRecord}
 use Rattle.calls.specs.Called as calls
-use Rattle.floats.specs.Words.{wordsOf}
+use Rattle.floats.specs.Words.{firstFloats, wordsOf}
 use Rattle.dual_calls.specs.Kind.{dualKind}
 use Rattle.dual2_calls.specs.Kind.{dual2Kind}
 use Rattle.dual3_calls.specs.Kind.{dual3Kind}
@@ -49,7 +48,7 @@ nderivOf HyperHyperDual = 3
 -- the sum (39) or the product of a run of so many floats, as words
 unfoldable pub joinedOf : Kind → ℕ → List ℕ → ℕ → List Float → ℕ × List ℕ
 joinedOf kind function records count left =
-    let run = tabulate (λ i. ofBits binary64 (getD records i 0)) count 0 in
+    let run = firstFloats records count in
     let given = cond (eqb function 0x39) (summedBy kind run left) (multipliedBy kind run left) in
     (given .0, wordsOf (given .1))
 
