@@ -2,7 +2,7 @@
 use dual::Dual;
 use dual::DualAnswer;
 use matrices::AfterColumn;
-use matrices::Marks;
+use orders::Marks;
 ghost use mathlib.Core.Path.{_≡_};
 ghost use Prim.Native.Nat.{_+_, _*_, _<_, _≤_};
 ghost use lib.ListN.{length};
@@ -120,7 +120,7 @@ pub(crate) fn determinant_of(n: usize, a: &[f64], order: &[usize], swaps: usize)
         if k >= n {
             return DualAnswer::Refused(refusals::NOT_AN_ORDER);
         }
-        m = matrices::order::mark(m, k);
+        m = orders::mark(m, k);
         x = x.mul(dual::read(a, i * n + i));
     }
     let number = matrices::refusal::walked(n, m, swaps);

@@ -8,7 +8,7 @@ ghost use Rattle.dual.specs.Rules.{dualAlgebra, dualRecords};
 ghost use Rattle.matrices.specs.Matrix.{Square, RowPlace};
 ghost use Rattle.matrices.specs.Solve.{Strided, lessProduct, lessRow, forwardRowFrom, forwardFrom, backRow, back, substituteFrom, solveStarts, solveOf};
 ghost use Rattle.matrices.specs.Inverse.{units, inverseOf};
-ghost use Rattle.matrices.specs.Order.{Order};
+ghost use Rattle.orders.specs.Order.{Order};
 
 // v less record p of a times record q of x.
 fn less_product(v: Dual, a: &[f64], p: usize, x: &[f64], q: usize) -> Dual

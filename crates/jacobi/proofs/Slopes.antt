@@ -17,7 +17,7 @@ use Rattle.algebra.specs.Outcome.{value, refused}
 use Rattle.algebra.proofs.Flat.{decode-size, decode-at, decode-length, record-same, encode-reals}
 use Rattle.matrices.specs.Matrix.{cell}
 use Rattle.matrices.proofs.Places.{place}
-use Rattle.matrices.proofs.Permutation.{both}
+use Rattle.orders.proofs.Permutation.{both}
 use Rattle.matrices.proofs.Answers.{passed, allowed}
 use Rattle.jacobi.specs.Sort.{Eigen, jacobiOf}
 use Rattle.jacobi.specs.Entry.{jacobiRefusal, jacobiAnswered, jacobiDone, jacobiLeft}

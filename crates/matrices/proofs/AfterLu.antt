@@ -18,7 +18,7 @@ use Rattle.matrices.specs.Entries.{solveRefusal, inverseRefusal, determi
 use Rattle.matrices.specs.Matrix.{exchange, exchangeRows, store}
 use Rattle.matrices.specs.Lu.{Run, going, singular, countUp, bringPivot, pivotOf, subtract, reduceRow, reduce, reduceRun, column, luOf}
 use Rattle.matrices.proofs.Answers.{LeavesOrder, not-both, lu-cases, accepted-order}
-use Rattle.matrices.proofs.Permutation.{order-isOrder}
+use Rattle.orders.proofs.Permutation.{order-isOrder}
 
 -- ---- LU keeps the number of records
 

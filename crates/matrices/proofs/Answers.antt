@@ -19,12 +19,12 @@ use Rattle.matrices.specs.Entries.{luRefusal, orderRefusal, swapsRefusal
 use Rattle.matrices.specs.Determinant.{determinantOf}
 use Rattle.matrices.specs.Inverse.{inverseOf}
 use Rattle.matrices.specs.Lu.{Run, going, singular, luOf}
-use Rattle.matrices.specs.Order.{Order, isOrder, parity, isOdd, differ}
+use Rattle.orders.specs.Order.{Order, isOrder, parity, isOdd, differ}
 use Rattle.matrices.specs.SameReals.{SameLu, SameSolve}
 use Rattle.matrices.specs.Solve.{solveOf}
 use Rattle.matrices.specs.Walk.{lengthsRefusal}
 use Rattle.matrices.proofs.Parity.{Ordered, swapsIn, lu-ordered, lu-few}
-use Rattle.matrices.proofs.Permutation.{both, isOrder-order, order-isOrder}
+use Rattle.orders.proofs.Permutation.{both, isOrder-order, order-isOrder}
 use Rattle.matrices.proofs.Slopes.{mapRun, lu-map, solve-map, inverse-map, determinant-map}
 
 -- ---- what a number of 0 tells

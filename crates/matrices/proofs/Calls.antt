@@ -34,7 +34,7 @@ use Rattle.matrices.proofs.AfterLu.{lu-full, solve-accepts, inverse-acc
 use Rattle.matrices.proofs.Answers.{LeavesOrder, lu-leaves-order, solve-done, inverse-done, determinant-done, lu-same, solve-same, inverse-same, determinant-same}
 use Rattle.algebra.proofs.Laws.{Laws}
 use Rattle.matrices.proofs.PreviousContents.{lu-equal, lu-kept, lu-zero, solve-equal, solve-kept, inverse-equal, inverse-kept}
-use Rattle.matrices.proofs.Times.{order-occurs}
+use Rattle.orders.proofs.Times.{order-occurs}
 
 -- document 01's reading tells the answers apart
 pub lu-one : (x y : LuAnswer) → luOutcome x ≡ luOutcome y → luColumn x ≡ luColumn y → x ≡ y

@@ -18,12 +18,13 @@ use Rattle.algebra.proofs.Laws.{Laws}
 use Rattle.matrices.specs.Entries.{countRefusal, swapsRefusal, determinantRefusal, determinantLeft}
 use Rattle.matrices.specs.Determinant.{signed, diagonalProduct, determinantOf}
 use Rattle.matrices.specs.Matrix.{Square, cell}
-use Rattle.matrices.specs.Order.{isOrder}
-use Rattle.matrices.specs.Walk.{marksNone, marksWith, isFull, walkedRefusal}
-use Rattle.matrices.specs.declared.Marks.{Marks}
+use Rattle.orders.specs.Order.{isOrder}
+use Rattle.orders.specs.Walk.{marksNone, marksWith, isFull}
+use Rattle.matrices.specs.Walk.{walkedRefusal}
+use Rattle.orders.specs.declared.Marks.{Marks}
 use Rattle.matrices.proofs.Answers.{determinant-done, determinant-refused}
-use Rattle.matrices.proofs.Odd.{odd-mod}
-use Rattle.matrices.proofs.Walk.{Marking, marking, mark-turn, mark-stop, mark-full, mark-odd}
+use Rattle.orders.proofs.Odd.{odd-mod}
+use Rattle.orders.proofs.Walk.{Marking, marking, mark-turn, mark-stop, mark-full, mark-odd}
 
 module _ {R : Type 0} {A : Algebra R} {L : Layout R} (Q : Laws A L) where
   abbrev pub Multiplying : ℕ → List Float → R → ℕ → Type 0

@@ -16,7 +16,7 @@ use Rattle.matrices.specs.Entries.{luRefusal, solveRefusal, inverseRefus
 use Rattle.matrices.specs.Inverse.{inverseOf}
 use Rattle.matrices.specs.Lu.{luOf}
 use Rattle.matrices.specs.Matrix.{Square}
-use Rattle.matrices.specs.Order.{Order, isOrder}
+use Rattle.orders.specs.Order.{Order, isOrder}
 use Rattle.matrices.specs.Solve.{solveOf}
 use Rattle.matrices.specs.Walk.{lengthsRefusal}
 use Rattle.matrices.proofs.Answers.{lu-fits, solve-fits, inverse-fits, determinant-fits, lu-done, solve-done, inverse-done, determinant-refused}

@@ -1,17 +1,12 @@
 -- Laws of matrices over any record; those that the crates of the entries cite are public.
--- lists: what is left of one
-mod Rest
-pub mod Odd
 -- places of a square matrix in flat floats
 pub mod Places
 -- LU: its columns case by case
 pub mod Lu
 mod PivotSought
 mod PivotBrought
--- the order: permutations and parity, and their tests in one pass
-pub mod Permutation
-mod Times
-pub mod Walk
+-- the order: what exchanges keep, and parity
+mod Exchanges
 pub mod Parity
 -- slopes never steer
 pub mod Slopes

@@ -17,11 +17,12 @@ use Rattle.algebra.specs.Flat.{tabulate}
 use Rattle.algebra.proofs.Loop.{upto-keep, upto-reach}
 use Rattle.matrices.specs.Matrix.{exchange, exchangeRows}
 use Rattle.matrices.specs.Lu.{Run, going, singular, countUp, bringPivot, pivotOf, reduceRun, column, luOf}
-use Rattle.matrices.specs.Order.{Distinct, Order, differ, oddBelow, parity, isOdd}
+use Rattle.orders.specs.Order.{Distinct, Order, differ, oddBelow, parity, isOdd}
 use Rattle.matrices.specs.declared.Pivot.{Pivot}
 use Rattle.matrices.proofs.Lu.{pivot-row, bringPivot-none, bringPivot-stays, bringPivot-moves}
-use Rattle.matrices.proofs.Rest.{differ-swap}
-use Rattle.matrices.proofs.Permutation.{fore, all-at, exchange-order, countUp-order}
+use Rattle.orders.proofs.Rest.{differ-swap}
+use Rattle.orders.proofs.Permutation.{all-at}
+use Rattle.matrices.proofs.Exchanges.{fore, exchange-order, countUp-order}
 
 -- ---- the parity of such an exchange
 

@@ -15,7 +15,7 @@ use Rattle.algebra.specs.Flat.{Layout, decode}
 use Rattle.algebra.specs.Outcome.{value, refused}
 use Rattle.matrices.specs.Entries.{solveRefusal, inverseRefusal, LuLeft, luAnswered, SolveLeft, solveAnswered, luFinish, luLeft, solveLeft, inverseLeft}
 use Rattle.matrices.specs.Lu.{Run, going, singular, luOf}
-use Rattle.matrices.specs.Order.{isOrder}
+use Rattle.orders.specs.Order.{isOrder}
 use Rattle.matrices.specs.PreviousContents.{EqualLu, EqualSolve}
 use Rattle.matrices.proofs.Answers.{not-both, number-one, never-six, lu-cases}
 

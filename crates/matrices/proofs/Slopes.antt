@@ -17,7 +17,7 @@ use Rattle.matrices.specs.Lu.{Run, going, singular, better, bringPivot, 
 use Rattle.matrices.specs.Solve.{less, eliminate, forwardRow, forward, divide, backRow, back, substitute, solveOf}
 use Rattle.matrices.specs.Determinant.{diagonalProduct, determinantOf}
 use Rattle.matrices.specs.Inverse.{unit, inverseColumn, inverseOf}
-use Rattle.matrices.specs.Order.{isOdd}
+use Rattle.orders.specs.Order.{isOdd}
 use Rattle.matrices.specs.declared.Pivot.{Pivot}
 
 -- ---- lists

@@ -18,10 +18,10 @@ use Rattle.algebra.proofs.Loop.{upto-carry, upto-apart, upto-same, upto-reach}
 use Rattle.matrices.specs.Matrix.{cell, store}
 use Rattle.matrices.specs.Solve.{assign, less, eliminate, forwardRow, forward, divide, backRow, back, substitute, forwardFrom, substituteFrom, solveStarts, solveOf}
 use Rattle.matrices.specs.Inverse.{unit, inverseColumn, inverseOf, units}
-use Rattle.matrices.specs.Order.{Order}
+use Rattle.orders.specs.Order.{Order}
 use Rattle.floats.proofs.Fill.{Filled, filled-more, filled-all}
 use Rattle.matrices.proofs.Inner.{stride-apart}
-use Rattle.matrices.proofs.Permutation.{order-below}
+use Rattle.orders.proofs.Permutation.{order-below}
 use Rattle.matrices.proofs.Places.{place}
 
 -- places in different columns are different

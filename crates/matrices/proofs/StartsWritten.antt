@@ -14,7 +14,7 @@ use Rattle.algebra.proofs.Cells.{holds}
 use Rattle.algebra.proofs.Laws.{Laws}
 use Rattle.matrices.specs.Inverse.{units, inverseOf}
 use Rattle.matrices.specs.Matrix.{Square, store}
-use Rattle.matrices.specs.Order.{Order}
+use Rattle.orders.specs.Order.{Order}
 use Rattle.matrices.specs.Solve.{substituteFrom, solveStarts, solveOf}
 use Rattle.floats.proofs.Fill.{Filled, filled-more, filled-all}
 use Rattle.matrices.proofs.Starts.{solve-by, inverse-by}

@@ -5,7 +5,7 @@ use mathlib.Core.List.{List}
 use Rattle.algebra.specs.Algebra.{Algebra, oneOf}
 use Rattle.algebra.specs.Loop.{upto}
 use Rattle.matrices.specs.Matrix.{cell}
-use Rattle.matrices.specs.Order.{isOdd}
+use Rattle.orders.specs.Order.{isOdd}
 
 -- negated where the count is odd
 abbrev pub signed : {R : Type 0} → Algebra R → ℕ → R → R

@@ -15,7 +15,7 @@ use Rattle.matrices.specs.Lu.{Run, going, singular, luOf}
 use Rattle.matrices.specs.Solve.{solveOf}
 use Rattle.matrices.specs.Determinant.{determinantOf}
 use Rattle.matrices.specs.Inverse.{inverseOf}
-use Rattle.matrices.specs.Order.{isOrder, parity, isOdd, differ}
+use Rattle.orders.specs.Order.{isOrder, parity, isOdd, differ}
 
 -- The first refusal that applies, by its number; 0 where none does. A record has w floats; of a lent buffer that is only measured the length is given.
 

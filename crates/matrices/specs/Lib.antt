@@ -5,7 +5,6 @@ pub mod RunAfter
 pub mod Solve
 pub mod Determinant
 pub mod Inverse
-pub mod Order
 pub mod Entries
 pub mod Walk
 pub mod SameReals

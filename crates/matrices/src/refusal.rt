@@ -1,6 +1,5 @@
 // The refusals of the four entries, by number, in document 01's order; 0 where none applies. A record has w floats.
-use super::Marks;
-use super::order;
+use orders::Marks;
 ghost use mathlib.Core.Path.{_≡_};
 ghost use Prim.Native.Nat.{_≤_};
 ghost use lib.ListN.{length};
@@ -35,7 +34,7 @@ fn not_an_order(n: usize, order: &[usize]) -> u32
     requires { ⌜ length (now order) ≡ n ⌝ }
     ensures { λ r. ⌜ r ≡ orderRefusal n (now (order .entry)) ⌝ }
 {
-    if order::is_order(n, order) {
+    if orders::is_order(n, order) {
         0
     } else {
         refusals::NOT_AN_ORDER
@@ -110,7 +109,7 @@ fn swap_count(odd: bool, swaps: usize) -> u32
     if refusals::LARGEST_SWAPS < swaps {
         return refusals::WRONG_SWAPS;
     }
-    if order::differs(swaps % 2 == 1, odd) {
+    if orders::differs(swaps % 2 == 1, odd) {
         return refusals::WRONG_SWAPS;
     }
     0
@@ -121,7 +120,7 @@ pub fn walked(n: usize, m: Marks, swaps: usize) -> u32
     requires { ⌜ n ≤ largest.n ⌝ }
     ensures { λ r. ⌜ r ≡ walkedRefusal n m swaps ⌝ }
 {
-    if order::is_full(n, m.word) {
+    if orders::is_full(n, m.word) {
         swap_count(m.inversions % 2 == 1, swaps)
     } else {
         refusals::NOT_AN_ORDER

@@ -1,6 +1,6 @@
 // `Dual`: the record of the words, and what its methods answer.
-use floats::words;
 use dual::Dual;
+use floats::words;
 ghost use mathlib.Core.Path.{_≡_};
 ghost use Rattle.algebra.specs.Flat.{recordAt};
 ghost use Rattle.floats.specs.Words.{floatsOf};

@@ -1,6 +1,6 @@
 // `Dual2`: the record of the words, and what its methods answer.
-use floats::words;
 use dual2::Dual2;
+use floats::words;
 ghost use mathlib.Core.Path.{_≡_};
 ghost use Rattle.algebra.specs.Flat.{recordAt};
 ghost use Rattle.floats.specs.Words.{floatsOf};

@@ -1,6 +1,6 @@
 // `Dual3`: the record of the words, and what its methods answer.
-use floats::words;
 use dual3::Dual3;
+use floats::words;
 ghost use mathlib.Core.Path.{_≡_};
 ghost use Rattle.algebra.specs.Flat.{recordAt};
 ghost use Rattle.floats.specs.Words.{floatsOf};

@@ -11,7 +11,7 @@ use Rattle.dual3.specs.Rules.{dual3Chain}
 use Rattle.matrices.specs.Matrix.{exchange, exchangeRows, cell, store}
 use Rattle.matrices.specs.Lu.{better, bringPivot, pivotOf, subtract, reduceRow, reduce, column, luOf}
 use Rattle.matrices.specs.Determinant.{diagonalProduct, determinantOf}
-use Rattle.matrices.specs.Order.{absent, isOrder, oddBelow, parity, isOdd}
+use Rattle.orders.specs.Order.{absent, isOrder, oddBelow, parity, isOdd}
 use Rattle.matrices.specs.Entries.{luLeft, solveLeft, inverseLeft, determinantLeft}
 use Rattle.rotations.specs.Rotation as turn
 use Rattle.jacobi.specs.Sweeps as sweeps

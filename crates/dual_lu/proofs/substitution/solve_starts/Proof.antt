@@ -3,7 +3,7 @@ use borrow.Author.Needs.{needs}
 use Prim.Native.Nat.{_-_}
 use denote.Ref.{now}
 use native.Mathlib.Omega.{arith}
-use Rattle.matrices.proofs.Permutation.{order-below}
+use Rattle.orders.proofs.Permutation.{order-below}
 use Rattle.matrices.proofs.StartsWritten.{Starting, starting, start-turn, start-end, startOf}
 use Rattle.dual.proofs.Flat.{dual-laws}
 use Rattle.dual_lu.proofs.substitution.solve_starts.Statement.{statement}

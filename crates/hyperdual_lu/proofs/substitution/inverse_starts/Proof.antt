@@ -5,7 +5,7 @@ use denote.Ref.{now}
 use lib.ListN.{getD}
 use native.Mathlib.Omega.{arith}
 use Rattle.matrices.specs.Matrix.{Square, RowPlace}
-use Rattle.matrices.proofs.Permutation.{order-below}
+use Rattle.orders.proofs.Permutation.{order-below}
 use Rattle.matrices.proofs.Places.{row-place}
 use Rattle.matrices.proofs.Turns.{run-end}
 use Rattle.matrices.proofs.StartsWritten.{Ones, ones-start, ones-turn}

@@ -8,8 +8,8 @@ use borrow.Author.Tests.{lt-ltb, le-ltb}
 use Rattle.refusals.specs.Largest as largest
 use Rattle.refusals.specs.Number as refusal
 use Rattle.matrices.specs.Entries.{countRefusal}
-use Rattle.matrices.specs.Order.{differ}
-use Rattle.matrices.proofs.Odd.{odd-mod}
+use Rattle.orders.specs.Order.{differ}
+use Rattle.orders.proofs.Odd.{odd-mod}
 use Rattle.matrices.proofs.refusal.swap_count.Statement.{statement}
 use Rattle.matrices.proofs.refusal.swap_count.Tie as tie
 

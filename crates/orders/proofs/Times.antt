@@ -8,8 +8,8 @@ use native.Mathlib.Omega.{arith}
 use lib.Dec.{ltb, eqb}
 use lib.ListN.{length, getD}
 use borrow.Author.Tests.{lt-ltb, le-ltb, ltb-true, eq-eqb, ne-eqb}
-use Rattle.matrices.specs.Order.{Order, absent, isOrder, differ, isOdd}
-use Rattle.matrices.proofs.Permutation.{both, order-isOrder}
+use Rattle.orders.specs.Order.{Order, absent, isOrder, differ, isOdd}
+use Rattle.orders.proofs.Permutation.{both, order-isOrder}
 
 -- how often x comes
 times : ℕ → List ℕ → ℕ

@@ -5,7 +5,7 @@ use mathlib.Core.Bool.{not}
 use native.Mathlib.Nat.{suc-mod, mod-lt}
 use native.Mathlib.Omega.{arith}
 use lib.Dec.{eqb}
-use Rattle.matrices.specs.Order.{isOdd}
+use Rattle.orders.specs.Order.{isOdd}
 
 odd-next : (k : ℕ) → k < 2 → eqb (suc k % 2) 1 ≡ not (eqb k 1)
 odd-next zero h = refl

@@ -6,7 +6,7 @@ use mathlib.Core.List.{List, [], _∷_}
 use native.Mathlib.Numerals.{add-one}
 use lib.ListN.{length, getD, drop, drop-of-length-le}
 use lib.Seq.{drop-cons}
-use Rattle.matrices.specs.Order.{differ}
+use Rattle.orders.specs.Order.{differ}
 
 pub rest-turn : (l : List ℕ) (k : ℕ) → k < length l → drop k l ≡ getD l k 0 ∷ drop (k + 1) l
 rest-turn l k h = drop-cons l k 0 h ∙ ap (λ (j : ℕ). getD l k 0 ∷ drop j l) (sym (add-one k))

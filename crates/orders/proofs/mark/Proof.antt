@@ -6,9 +6,9 @@ use lib.Pow.{pow-pos, shl-exact}
 use native.Mathlib.Omega.{arith}
 use borrow.Author.Needs.{needs}
 use Rattle.refusals.specs.Largest as largest
-use Rattle.matrices.specs.Walk.{markOf}
-use Rattle.matrices.proofs.order.mark.Statement.{statement}
-use Rattle.matrices.proofs.order.mark.Tie as tie
+use Rattle.orders.specs.Walk.{markOf}
+use Rattle.orders.proofs.mark.Statement.{statement}
+use Rattle.orders.proofs.mark.Tie as tie
 
 -- the shift loses nothing, as x is below 32
 shifted : (x : ℕ) → x < largest.n → 4294967297 * 2 ^ x % 2 ^ 64 ≡ 4294967297 * 2 ^ x

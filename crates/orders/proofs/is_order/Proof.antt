@@ -7,12 +7,12 @@ use native.Mathlib.Omega.{arith}
 use lib.ListN.{length, getD}
 use borrow.Author.Needs.{needs}
 use Rattle.refusals.specs.Largest as largest
-use Rattle.matrices.specs.Order.{isOrder}
-use Rattle.matrices.specs.Walk.{marksWith, isFull}
-use Rattle.matrices.specs.declared.Marks.{Marks}
-use Rattle.matrices.proofs.Walk.{Marking, marking, mark-turn, mark-stop, mark-full}
-use Rattle.matrices.proofs.order.is_order.Statement.{statement}
-use Rattle.matrices.proofs.order.is_order.Tie as tie
+use Rattle.orders.specs.Order.{isOrder}
+use Rattle.orders.specs.Walk.{marksWith, isFull}
+use Rattle.orders.specs.declared.Marks.{Marks}
+use Rattle.orders.proofs.Walk.{Marking, marking, mark-turn, mark-stop, mark-full}
+use Rattle.orders.proofs.is_order.Statement.{statement}
+use Rattle.orders.proofs.is_order.Tie as tie
 
 abbrev Inv-loop : tie.InvT-loop
 Inv-loop n o m₀ i₀ m i = Marking n o m i

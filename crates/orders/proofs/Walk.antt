@@ -12,11 +12,11 @@ use lib.Dec.{ltb, eqb}
 use lib.ListN.{length, getD, drop}
 use borrow.Author.Tests.{lt-ltb, le-ltb, eq-eqb, ne-eqb}
 use Rattle.refusals.specs.Largest as largest
-use Rattle.matrices.specs.Order.{isOrder, differ, oddBelow, parity}
-use Rattle.matrices.specs.Walk.{marked, markOf, marksNone, marksWith, isFull}
-use Rattle.matrices.specs.declared.Marks.{Marks}
-use Rattle.matrices.proofs.Rest.{rest-turn, rest-end, differ-turn, differ-swap, differ-false}
-use Rattle.matrices.proofs.Times.{oddly, allBelow, order-all-below, order-oddly, oddly-order}
+use Rattle.orders.specs.Order.{isOrder, differ, oddBelow, parity}
+use Rattle.orders.specs.Walk.{marked, markOf, marksNone, marksWith, isFull}
+use Rattle.orders.specs.declared.Marks.{Marks}
+use Rattle.orders.proofs.Rest.{rest-turn, rest-end, differ-turn, differ-swap, differ-false}
+use Rattle.orders.proofs.Times.{oddly, allBelow, order-all-below, order-oddly, oddly-order}
 
 -- ---- the marks of a word that is made from others
 

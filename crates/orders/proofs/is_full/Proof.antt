@@ -5,9 +5,9 @@ use lib.Dec.{eqb}
 use lib.Pow.{pow-pos}
 use native.Mathlib.Omega.{arith}
 use borrow.Author.Needs.{needs}
-use Rattle.matrices.proofs.Walk.{one-shifted}
-use Rattle.matrices.proofs.order.is_full.Statement.{statement}
-use Rattle.matrices.proofs.order.is_full.Tie as tie
+use Rattle.orders.proofs.Walk.{one-shifted}
+use Rattle.orders.proofs.is_full.Statement.{statement}
+use Rattle.orders.proofs.is_full.Tie as tie
 
 -- 1 << n is 2 ^ n, which is not zero
 sub-result : tie.Need-sub-result

@@ -1,0 +1,3 @@
+-- Orders of rows, and how one is tested. Definitions only.
+pub mod Order
+pub mod Walk
