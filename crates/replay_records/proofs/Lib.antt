@@ -1,3 +1,4 @@
 -- Laws that the proofs cite.
 mod ByKind
 mod Answering
+mod Lent

@@ -9,8 +9,9 @@ use replay::tally;
 use replay::tally::Compared;
 use replay::tally::Tally;
 ghost use mathlib.Core.Path.{_≡_};
-ghost use Prim.Native.Nat.{_<_};
+ghost use Prim.Native.Nat.{_<_, _≤_};
 ghost use lib.ListN.{length};
+ghost use Rattle.replay_table.specs.Table.{mostWords};
 ghost use Rattle.replay_records.specs.Kinds.{sameRecorded};
 
 // A case, with its function.
@@ -56,6 +57,40 @@ fn case_of(
     false
 }
 
+// The same in buffers of its own: as long as the run that a case has, and as its answer.
+fn case_in_buffers(
+    kind: Kind,
+    function: u64,
+    exponent: i32,
+    records: &[u64],
+    floats: &[u64],
+    wanted: u64,
+    words: &[u64],
+    told: bool,
+) -> bool
+    requires { ⌜ length (now records) ≤ mostWords ⌝ }
+    requires { ⌜ (0 < length (now words)) × (length (now words) ≤ 16) ⌝ }
+{
+    let n = records.len();
+    let size = words.len();
+    let mut run = [0.0f64; replay_table::WORDS];
+    let mut left = [0.0f64; 16];
+    let mut out = [0u64; 16];
+    case_of(
+        kind,
+        function,
+        exponent,
+        records,
+        floats,
+        wanted,
+        words,
+        &mut run[..n],
+        &mut left[..size],
+        &mut out[..size],
+        told,
+    )
+}
+
 // One case. Of the function `last` so many were compared so far; the first that differs of each is printed.
 fn case(
     kind: Kind,
@@ -86,27 +121,19 @@ fn case(
     let size = c.answer;
     let function = c.function;
     let told = function != last || count.different == 0;
-    let mut run = [0.0f64; replay_table::WORDS];
-    let mut left = [0.0f64; 16];
-    let mut out = [0u64; 16];
-    let same = case_of(
+    let exponent = replay_table::exponent(c.exponent);
+    let same = case_in_buffers(
         kind,
         function,
-        replay_table::exponent(c.exponent),
+        exponent,
         &words[..n],
         &outside[..m],
         c.number,
         &answer[..size],
-        &mut run[..n],
-        &mut left[..size],
-        &mut out[..size],
         told,
     );
-    let compared = Compared {
-        place,
-        whole: c.whole,
-        same,
-    };
+    let whole = c.whole;
+    let compared = Compared { place, whole, same };
     Told { function, compared }
 }
 
