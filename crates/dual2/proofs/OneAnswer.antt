@@ -5,7 +5,7 @@ use Rattle.dual2.specs.declared.Dual2Answer.{Dual2Answer}
 use Rattle.dual2.specs.declared.Dual2Answer.the-variants.{Value, Refused}
 use Rattle.dual2.specs.Rules.{outcome}
 use Rattle.dual2.proofs.Dual2 as method
-use Rattle.dual2.proofs.records as run
+use Rattle.dual2.proofs.records as records
 
 -- two answers of one outcome are one
 outcome-one : (x y : Dual2Answer) → outcome x ≡ outcome y → x ≡ y
@@ -122,8 +122,8 @@ powd-only κs a x y v w h p q = (p ∙ sym q, refl)
 pub apply-only : Only 0 method.apply.Kinds.ps method.apply.Kinds.r method.apply.Reads.Pre method.apply.Reads.Post
 apply-only κs a x y v w h p q = (outcome-one x y (p ∙ sym q), refl)
 
-pub sum-only : Only 1 run.sum.Kinds.ps run.sum.Kinds.r run.sum.Reads.Pre run.sum.Reads.Post
+pub sum-only : Only 1 records.sum.Kinds.ps records.sum.Kinds.r records.sum.Reads.Pre records.sum.Reads.Post
 sum-only κs a x y v w h p q = (outcome-one x y (p ∙ sym q), refl)
 
-pub product-only : Only 1 run.product.Kinds.ps run.product.Kinds.r run.product.Reads.Pre run.product.Reads.Post
+pub product-only : Only 1 records.product.Kinds.ps records.product.Kinds.r records.product.Reads.Pre records.product.Reads.Post
 product-only κs a x y v w h p q = (outcome-one x y (p ∙ sym q), refl)

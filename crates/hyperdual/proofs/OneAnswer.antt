@@ -5,7 +5,7 @@ use Rattle.hyperdual.specs.declared.HyperDualAnswer.{HyperDualAnswer}
 use Rattle.hyperdual.specs.declared.HyperDualAnswer.the-variants.{Value, Refused}
 use Rattle.hyperdual.specs.Rules.{outcome}
 use Rattle.hyperdual.proofs.HyperDual as method
-use Rattle.hyperdual.proofs.records as run
+use Rattle.hyperdual.proofs.records as records
 
 -- two answers of one outcome are one
 pub outcome-one : (x y : HyperDualAnswer) → outcome x ≡ outcome y → x ≡ y
@@ -125,8 +125,8 @@ powd-only κs a x y v w h p q = (p ∙ sym q, refl)
 pub apply-only : Only 0 method.apply.Kinds.ps method.apply.Kinds.r method.apply.Reads.Pre method.apply.Reads.Post
 apply-only κs a x y v w h p q = (outcome-one x y (p ∙ sym q), refl)
 
-pub sum-only : Only 1 run.sum.Kinds.ps run.sum.Kinds.r run.sum.Reads.Pre run.sum.Reads.Post
+pub sum-only : Only 1 records.sum.Kinds.ps records.sum.Kinds.r records.sum.Reads.Pre records.sum.Reads.Post
 sum-only κs a x y v w h p q = (outcome-one x y (p ∙ sym q), refl)
 
-pub product-only : Only 1 run.product.Kinds.ps run.product.Kinds.r run.product.Reads.Pre run.product.Reads.Post
+pub product-only : Only 1 records.product.Kinds.ps records.product.Kinds.r records.product.Reads.Pre records.product.Reads.Post
 product-only κs a x y v w h p q = (outcome-one x y (p ∙ sym q), refl)
