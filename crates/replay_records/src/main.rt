@@ -11,7 +11,7 @@ use replay::tally::Tally;
 ghost use mathlib.Core.Path.{_≡_};
 ghost use Prim.Native.Nat.{_<_, _≤_};
 ghost use lib.ListN.{length};
-ghost use Rattle.replay_table.specs.Table.{mostWords};
+ghost use Rattle.replay_table.specs.Table.{mostWords, mostAnswer};
 ghost use Rattle.replay_records.specs.Kinds.{sameRecorded};
 
 // A case, with its function.
@@ -69,13 +69,13 @@ fn case_in_buffers(
     told: bool,
 ) -> bool
     requires { ⌜ length (now records) ≤ mostWords ⌝ }
-    requires { ⌜ (0 < length (now words)) × (length (now words) ≤ 16) ⌝ }
+    requires { ⌜ (0 < length (now words)) × (length (now words) ≤ mostAnswer) ⌝ }
 {
     let n = records.len();
     let size = words.len();
     let mut run = [0.0f64; replay_table::WORDS];
-    let mut left = [0.0f64; 16];
-    let mut out = [0u64; 16];
+    let mut left = [0.0f64; replay_table::ANSWER];
+    let mut out = [0u64; replay_table::ANSWER];
     case_of(
         kind,
         function,
@@ -103,7 +103,7 @@ fn case(
 ) -> Told {
     let mut words = [0u64; replay_table::WORDS];
     let mut outside = [0u64; 2];
-    let mut answer = [0u64; 16];
+    let mut answer = [0u64; replay_table::ANSWER];
     let parts = kinds::parts(kind);
     let c = replay_table::read::read_case(
         file,

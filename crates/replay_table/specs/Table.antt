@@ -14,6 +14,10 @@ use Rattle.replay_table.specs.declared.Shape.{Shape}
 abbrev pub mostWords : ℕ
 mostWords = 12 * largest.width
 
+-- and of the longest answer: two records of the widest
+abbrev pub mostAnswer : ℕ
+mostAnswer = 2 * largest.width
+
 -- from number 00 on, in four digits each: how many records (f: the case says how many), exponents and floats a case has, and how many records its answer has
 -- (0: it is a whole number)
 abbrev pub table : List ℕ

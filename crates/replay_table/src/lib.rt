@@ -6,13 +6,16 @@ ghost use mathlib.Core.Path.{_≡_};
 ghost use Prim.Native.Nat.{_≤_, _<_, min};
 ghost use lib.ListN.{length};
 ghost use Rattle.refusals.specs.Largest as largest;
-ghost use Rattle.replay_table.specs.Table.{shapeOf, answerWords, recordOf, exponentOf, truthOf, sameAnswer};
+ghost use Rattle.replay_table.specs.Table.{mostAnswer, shapeOf, answerWords, recordOf, exponentOf, truthOf, sameAnswer};
 
 // A run says itself how many records it has.
 pub(crate) const RUN: u64 = 15;
 
 // The words of the longest run: twelve records of the widest.
 pub const WORDS: usize = 96;
+
+// And of the longest answer: two records of the widest.
+pub const ANSWER: usize = 16;
 
 // How many fields of each sort a case has, and how many records its answer has: none is a whole number.
 pub struct Shape {
@@ -130,7 +133,7 @@ pub fn shape_of(function: u64) -> Shape
 // How many words an answer has.
 pub fn answer_words(answers: u64, parts: usize) -> usize
     requires { ⌜ (0 < parts) × (parts ≤ largest.width) ⌝ }
-    ensures { λ r. ⌜ (r ≡ answerWords answers parts) × ((0 < r) × (r ≤ 16)) ⌝ }
+    ensures { λ r. ⌜ (r ≡ answerWords answers parts) × ((0 < r) × (r ≤ mostAnswer)) ⌝ }
 {
     match answers {
         0 => 1,

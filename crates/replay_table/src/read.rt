@@ -8,7 +8,7 @@ ghost use mathlib.Core.Path.{_≡_};
 ghost use Prim.Native.Nat.{_≤_, _<_};
 ghost use lib.ListN.{length};
 ghost use Rattle.refusals.specs.Largest as largest;
-ghost use Rattle.replay_table.specs.Table.{mostWords};
+ghost use Rattle.replay_table.specs.Table.{mostWords, mostAnswer};
 
 // One word of so many digits, where there is to be one.
 struct Field {
@@ -165,8 +165,8 @@ pub fn read_case(
     answer: &mut [u64],
 ) -> Case
     requires { ⌜ (0 < parts) × (parts ≤ largest.width) ⌝ }
-    requires { ⌜ (length (now words) ≡ mostWords) × ((length (now floats) ≡ 2) × (length (now answer) ≡ 16)) ⌝ }
-    ensures { λ r. ⌜ (r .records ≤ mostWords) × ((r .floats ≤ 2) × ((0 < r .answer) × (r .answer ≤ 16))) ⌝ }
+    requires { ⌜ (length (now words) ≡ mostWords) × ((length (now floats) ≡ 2) × (length (now answer) ≡ mostAnswer)) ⌝ }
+    ensures { λ r. ⌜ (r .records ≤ mostWords) × ((r .floats ≤ 2) × ((0 < r .answer) × (r .answer ≤ mostAnswer))) ⌝ }
 {
     let head = read_head(file, buffer, place);
     let place = head.place;

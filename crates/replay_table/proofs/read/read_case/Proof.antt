@@ -1,4 +1,4 @@
--- What is lent of each buffer is within it: two floats at most, two records of at most 8 parts at most.
+-- What is lent of each buffer is within it: two floats at most, and no more words than a run or an answer has.
 use mathlib.Core.Path.{sym}
 use native.Mathlib.Omega.{arith}
 use lib.Seq.{length-take-le}
@@ -18,7 +18,7 @@ slice-aggregate-read-middle c = sym (length-take-le _ _ (omega (arith, c .before
 answer-words-requires : tie.Need-answer-words-requires
 answer-words-requires c κs = c .before .before .before .before .before .before .before .before .before .before .before .before .before .before .before .before .before .before .before .before .pre .0
 
--- an answer has at most 16 words, of 16 lent
+-- an answer has no more words than are lent
 slice-relend-prefix-read-words : tie.Need-slice-relend-prefix-read-words
 slice-relend-prefix-read-words c = omega (arith, c .before .answer-words .ensures .1 .1, c .before .before .before .before .before .before .before .before .before .before .before .before .before .before .before .before .before .before .before .before .before .before .pre .1 .1 .1)
 
