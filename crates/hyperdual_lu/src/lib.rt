@@ -1,8 +1,5 @@
 // LU, solve, determinant and inverse of matrices of `HyperDual` in lent floats: linalg.rs. Matrices lie row by row, the record at row r and column c at
 // (r * n + c) * 4, real part first. n is 0 to 32. A call that is refused by its number writes nothing, but for 6 (see `lu`).
-mod columns;
-mod substitution;
-
 use hyperdual::HyperDualAnswer;
 use matrices::AfterColumn;
 pub use matrices::LuAnswer;
@@ -24,7 +21,7 @@ fn factor(n: usize, a: &[f64], factors: &mut [f64], order: &mut [usize]) -> LuAn
 {
     floats::copy(a, factors);
     matrices::order::count_up(order);
-    let s = columns::run_columns(n, factors, order);
+    let s = hyperdual_columns::run_columns(n, factors, order);
     match s {
         AfterColumn::Singular { column } => {
             floats::clear(factors);
@@ -57,7 +54,7 @@ pub fn solve(n: usize, factors: &[f64], order: &[usize], b: &[f64], x: &mut [f64
     if number != 0 {
         return SolveAnswer::Refused { number };
     }
-    substitution::solve_run(n, factors, order, b, x);
+    hyperdual_substitution::solve_run(n, factors, order, b, x);
     SolveAnswer::Done
 }
 
@@ -69,7 +66,7 @@ pub fn determinant(n: usize, factors: &[f64], order: &[usize], swaps: usize) -> 
     if number != 0 {
         return HyperDualAnswer::Refused(number);
     }
-    columns::determinant_of(n, factors, order, swaps)
+    hyperdual_columns::determinant_of(n, factors, order, swaps)
 }
 
 // The inverse, from the factors and the order. Refused: 1, 2, 7.
@@ -80,6 +77,6 @@ pub fn inverse(n: usize, factors: &[f64], order: &[usize], out: &mut [f64]) -> S
     if number != 0 {
         return SolveAnswer::Refused { number };
     }
-    substitution::inverse_run(n, factors, order, out);
+    hyperdual_substitution::inverse_run(n, factors, order, out);
     SolveAnswer::Done
 }
