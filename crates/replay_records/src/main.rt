@@ -10,7 +10,8 @@ use replay::tally::Compared;
 use replay::tally::Tally;
 ghost use mathlib.Core.Path.{_≡_};
 ghost use Prim.Native.Nat.{_<_, _≤_};
-ghost use lib.ListN.{length};
+ghost use lib.ListN.{length, take, replicate};
+ghost use Rattle.real.specs.Operations as float;
 ghost use Rattle.replay_table.specs.Table.{mostWords, mostAnswer};
 ghost use Rattle.replay_records.specs.Kinds.{sameRecorded};
 
@@ -70,6 +71,7 @@ fn case_in_buffers(
 ) -> bool
     requires { ⌜ length (now records) ≤ mostWords ⌝ }
     requires { ⌜ (0 < length (now words)) × (length (now words) ≤ mostAnswer) ⌝ }
+    ensures { λ r. ⌜ r ≡ sameRecorded kind function exponent (now (records .entry)) (now (floats .entry)) wanted (now (words .entry)) (length (now (records .entry))) (take (length (now (words .entry))) (replicate mostAnswer float.zero)) (take (length (now (words .entry))) (replicate mostAnswer 0)) ⌝ }
 {
     let n = records.len();
     let size = words.len();
