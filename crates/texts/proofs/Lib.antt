@@ -4,6 +4,7 @@ pub mod Every
 pub mod Digits
 pub mod Numbers
 pub mod Newline
+pub mod WholeNumbers
 -- writing
 pub mod Page
 pub mod Decimals

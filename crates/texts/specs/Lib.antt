@@ -2,4 +2,5 @@
 pub mod Bytes
 pub mod Digits
 pub mod Numbers
+pub mod Whole
 pub mod Page
