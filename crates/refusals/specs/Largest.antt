@@ -1,4 +1,4 @@
--- Document 01's limits: the largest that is not refused. Definitions only.
+-- The documents' limits: the largest that is not refused. Definitions only.
 use Prim.Native.Nat.{ℕ}
 use lib.IntN.{ℤ, pos, negsuc}
 
@@ -24,3 +24,11 @@ leastExponent = negsuc 1023
 -- of a determinant's swap count
 abbrev pub swaps : ℕ
 swaps = 32
+
+-- of the bytes of a Matrix Market text that is read
+abbrev pub market : ℕ
+market = 65536
+
+-- of the magnitude of a whole number in a text: 2^53
+abbrev pub whole : ℕ
+whole = 9007199254740992

@@ -1,3 +1,3 @@
--- What the contracts say of refusals: document 01's numbers, and the limits that they are given at. Definitions only.
+-- What the contracts say of refusals: the documents' numbers, and the limits that they are given at. Definitions only.
 pub mod Number
 pub mod Largest

@@ -1,4 +1,4 @@
--- Document 01's numbers for refusals, in the order of its table. Definitions only.
+-- The documents' numbers for refusals, in the order of their tables. Definitions only.
 use Prim.Native.Nat.{ℕ}
 
 -- n above the largest
@@ -36,3 +36,19 @@ wrongSwaps = 8
 -- a text that `dualrun` cannot read
 abbrev pub unreadable : ℕ
 unreadable = 9
+
+-- a Matrix Market text that is too long, or whose header, size line or number cannot be read, or a magnitude above the largest
+abbrev pub unreadableMarket : ℕ
+unreadableMarket = 10
+
+-- a Matrix Market text of a matrix that is not square
+abbrev pub notSquare : ℕ
+notSquare = 11
+
+-- a Matrix Market text with too few entries, or any byte after the last
+abbrev pub wrongEntries : ℕ
+wrongEntries = 12
+
+-- a matrix that cannot be written: a real part that is no whole number up to the largest, or a derivative part that is not zero
+abbrev pub unwritable : ℕ
+unwritable = 20

@@ -1,4 +1,4 @@
-// Document 01's numbers for refusals, and the limits that they are given at. specs/ has the same by name for contracts and definitions: a proof that
+// The documents' numbers for refusals, and the limits that they are given at. specs/ has the same by name for contracts and definitions: a proof that
 // meets both holds them to each other.
 
 // n above `LARGEST_N`.
@@ -28,6 +28,18 @@ pub const WRONG_SWAPS: u32 = 8;
 // A text that `dualrun` cannot read.
 pub const UNREADABLE: u32 = 9;
 
+// A Matrix Market text above `LARGEST_MARKET` bytes, or whose header, size line or number cannot be read, or a magnitude above `LARGEST_WHOLE`.
+pub const UNREADABLE_MARKET: u32 = 10;
+
+// A Matrix Market text of a matrix that is not square.
+pub const NOT_SQUARE: u32 = 11;
+
+// A Matrix Market text with too few entries, or any byte after the last.
+pub const WRONG_ENTRIES: u32 = 12;
+
+// A matrix that Matrix Market cannot hold here: a real part that is no whole number up to `LARGEST_WHOLE`, or a derivative part that is not zero.
+pub const UNWRITABLE: u32 = 20;
+
 // The largest n of a matrix.
 pub const LARGEST_N: usize = 32;
 
@@ -41,3 +53,9 @@ pub const LARGEST_EXPONENT: i32 = 1024;
 
 // The largest swap count of a determinant.
 pub const LARGEST_SWAPS: usize = 32;
+
+// The most bytes of a Matrix Market text that is read.
+pub const LARGEST_MARKET: usize = 65536;
+
+// The largest magnitude of a whole number in a text: 2^53, up to which each is a float.
+pub const LARGEST_WHOLE: u64 = 9007199254740992;

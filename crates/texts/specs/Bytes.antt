@@ -7,6 +7,12 @@ newline = 10
 abbrev pub space : ℕ
 space = 32
 
+abbrev pub percent : ℕ
+percent = 37
+
+abbrev pub minus : ℕ
+minus = 45
+
 -- the digits 0 to 9 stand in a row
 abbrev pub digitZero : ℕ
 digitZero = 48

@@ -1,0 +1,77 @@
+-- The format, line by line, apart from any reader: which texts are Matrix Market texts of the two kinds, of which matrix, and which of them are as the writer
+-- writes them. Definitions only.
+use Prim.Native.Nat.{ℕ, _+_, _*_, _/_, _≤_, _<_}
+use mathlib.Core.Path.{_≡_}
+use mathlib.Core.Bool.{Bool, true, false, cond, _&&_}
+use mathlib.Core.List.{List, [], _∷_, _++_}
+use lib.Dec.{ltb}
+use lib.IntN.{pos}
+use lib.ListN.{length}
+use lib.Ieee.{Float, binary64, neg, ofInt}
+use Rattle.refusals.specs.Largest as largest
+use Rattle.texts.specs.Bytes as byte
+use Rattle.texts.specs.Digits.{byteAt, isDigit, noNewline}
+use Rattle.texts.specs.Whole.{worth}
+
+-- "%%MatrixMarket matrix array integer "
+abbrev pub opening : List ℕ
+opening = 37 ∷ 37 ∷ 77 ∷ 97 ∷ 116 ∷ 114 ∷ 105 ∷ 120 ∷ 77 ∷ 97 ∷ 114 ∷ 107 ∷ 101 ∷ 116 ∷ 32 ∷ 109 ∷ 97 ∷ 116 ∷ 114 ∷ 105 ∷ 120 ∷ 32 ∷ 97 ∷ 114 ∷ 114 ∷ 97 ∷ 121 ∷ 32 ∷ 105 ∷ 110 ∷ 116 ∷ 101 ∷ 103 ∷ 101 ∷ 114 ∷ 32 ∷ []
+
+-- the first line: the opening, then "general" or "symmetric", and a newline
+abbrev pub header : Bool → List ℕ
+header true = opening ++ (115 ∷ 121 ∷ 109 ∷ 109 ∷ 101 ∷ 116 ∷ 114 ∷ 105 ∷ 99 ∷ 10 ∷ [])
+header false = opening ++ (103 ∷ 101 ∷ 110 ∷ 101 ∷ 114 ∷ 97 ∷ 108 ∷ 10 ∷ [])
+
+-- how many entries an n by n matrix has: all, or the diagonal and below
+unfoldable pub countOf : Bool → ℕ → ℕ
+countOf symmetric n = cond symmetric (n * (n + 1) / 2) (n * n)
+
+-- the float of a magnitude up to 2^53 with a minus or without: -0 is +0
+unfoldable pub signed : Bool → ℕ → Float
+signed minus v = cond (minus && ltb 0 v) (neg (ofInt binary64 (pos v))) (ofInt binary64 (pos v))
+
+-- the minus of a number, if it has one
+abbrev pub sign : Bool → List ℕ
+sign minus = cond minus (byte.minus ∷ []) []
+
+-- one digit or more, and nothing else
+pub record Digits (l : List ℕ) : Type 0 where
+  pub some : 0 < length l
+  pub all : (j : ℕ) → j < length l → isDigit 10 (byteAt l j) ≡ true
+
+-- no zero stands in front of another digit
+abbrev pub Short : List ℕ → Type 0
+Short l = byteAt l 0 ≡ byte.digitZero → length l ≡ 1
+
+-- comment lines: each a %, any bytes, and a newline
+pub data Comments : List ℕ → Type 0 where
+  none : Comments []
+  comment : (line rest : List ℕ) → noNewline line ≡ true → Comments rest → Comments (byte.percent ∷ (line ++ (byte.newline ∷ rest)))
+
+-- Entries, a line each: a minus or none, digits of a magnitude up to 2^53, a newline; with the numbers that they are. `tidy`: no zero in front, and no -0.
+pub data Entries (tidy : Bool) : List ℕ → List Float → Type 0 where
+  none : Entries tidy [] []
+  entry : (minus : Bool) (digits rest : List ℕ) (numbers : List Float) → Digits digits → worth 0 digits ≤ largest.whole → (tidy ≡ true → Short digits)
+      → (tidy ≡ true → minus ≡ true → 0 < worth 0 digits)
+      → Entries tidy rest numbers → Entries tidy (sign minus ++ (digits ++ (byte.newline ∷ rest))) (signed minus (worth 0 digits) ∷ numbers)
+
+-- A text of an n by n matrix whose entries, column by column, are these numbers: header, comment lines, the size line (rows, a space, columns, a newline), and as
+-- many entries as there are to be. `tidy`: as the writer writes, without comments, zeros in front and -0.
+pub record Market (tidy symmetric : Bool) (n : ℕ) (numbers : List Float) (text : List ℕ) : Type 0 where
+  pub comments : List ℕ
+  pub rows : List ℕ
+  pub columns : List ℕ
+  pub entries : List ℕ
+  pub lines : text ≡ header symmetric ++ (comments ++ (rows ++ (byte.space ∷ (columns ++ (byte.newline ∷ entries)))))
+  pub commented : Comments comments
+  pub plain : tidy ≡ true → comments ≡ []
+  pub row-digits : Digits rows
+  pub column-digits : Digits columns
+  pub short-rows : tidy ≡ true → Short rows
+  pub short-columns : tidy ≡ true → Short columns
+  pub height : worth 0 rows ≡ n
+  pub breadth : worth 0 columns ≡ n
+  pub listed : Entries tidy entries numbers
+  pub count : length numbers ≡ countOf symmetric n
+  pub few : n ≤ largest.n
+  pub fits : length text ≤ largest.market

@@ -1,0 +1,35 @@
+-- What a call of the writer leaves. Definitions only.
+use Prim.Native.Nat.{ℕ, _-_, _*_}
+use mathlib.Core.Bool.{Bool, cond, _&&_}
+use mathlib.Core.List.{List, _++_}
+use lib.Dec.{ltb, eqb}
+use lib.ListN.{length, replicate}
+use lib.Ieee.{Float}
+use Rattle.refusals.specs.Number as refusal
+use Rattle.refusals.specs.Largest as largest
+use Rattle.algebra.specs.Outcome.{Outcome, value, refused}
+use Rattle.market.specs.Text.{textOf, isWritable}
+
+-- the bytes that the writer is lent
+abbrev pub page : ℕ
+page = 20480
+
+-- the answer, and the lent bytes
+pub record WriteLeft : Type 0 where
+  pub answer : Outcome ℕ
+  pub text : List ℕ
+
+abbrev pub writeAnswered : Outcome ℕ → List ℕ → WriteLeft
+writeAnswered r text = record { answer = r; text = text }
+
+-- the text, its length told, and zeros to the end of the lent bytes
+unfoldable pub writeText : List ℕ → WriteLeft
+writeText t = writeAnswered (value (length t)) (t ++ replicate (page - length t) 0)
+
+-- write(n, a, text), w floats a record: 1, 2, 20
+unfoldable pub writeLeft : ℕ → ℕ → List Float → List ℕ → WriteLeft
+writeLeft w n a text =
+    cond (ltb largest.n n) (writeAnswered (refused refusal.tooLarge) text)
+    (cond (eqb (length a) (n * n * w) && eqb (length text) page)
+    (cond (isWritable w a) (writeText (textOf w n a)) (writeAnswered (refused refusal.unwritable) text))
+    (writeAnswered (refused refusal.wrongLength) text))
