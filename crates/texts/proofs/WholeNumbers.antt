@@ -4,14 +4,15 @@ use mathlib.Core.Path.{_≡_, refl, sym, ap, _∙_, subst}
 use mathlib.Core.Bool.{Bool, true, false, cond, true≢false}
 use mathlib.Core.List.{List, [], _∷_}
 use native.Mathlib.Omega.{arith}
-use lib.Dec.{leb, eqb}
+use lib.Dec.{leb, ltb, eqb}
 use lib.ListN.{length, getD, drop, drop-of-length-le}
-use lib.Seq.{drop-cons}
+use lib.Seq.{drop-cons, drop-drop, getD-drop}
 use borrow.Author.Count.{below-more}
-use borrow.Author.Tests.{leb-true, leb-false, lt-ltb, le-ltb, ltb-true, eq-eqb, ne-eqb, eqb-true}
+use borrow.Author.Tests.{leb-true, leb-false, lt-ltb, le-ltb, ltb-true, ltb-false, eq-eqb, ne-eqb, eqb-true}
 use Rattle.texts.specs.declared.Scan.{Scan}
 use Rattle.texts.specs.Digits.{byteAt, isDigit, digitValue, numberAt}
 use Rattle.texts.specs.Whole.{worth, past, lastOf, Capped, Grown, Found, DigitsAt}
+use Rattle.texts.proofs.Digits.{past-end}
 
 -- ---- what is left of a text from i on, by its first byte
 module _ (text : List ℕ) (i : ℕ) where
@@ -182,3 +183,53 @@ module _ (text : List ℕ) (p k q l : ℕ) where
       let a : i ≡ 0 = omega arith in
       let b : j ≡ 0 = omega arith in
       sym (h .answer ∙ (λ z. eqb (numberAt 10 text p (a z)) (numberAt 10 text q (b z))))
+
+-- ---- what was found, beside the text that is left
+past-short : (l : List ℕ) → length (past l) ≤ length l
+unfolding past
+past-short [] = omega arith
+past-short (b ∷ l) = by (isDigit 10 b) (past-short l)
+  where
+    by : (t : Bool) → length (past l) ≤ length l → length (cond t (past l) (b ∷ l)) ≤ suc (length l)
+    by true h = omega arith
+    by false h = omega arith
+
+no-digits : (l : List ℕ) → past l ≡ l → isDigit 10 (byteAt l 0) ≡ false
+unfolding past digitValue
+no-digits [] e = refl
+no-digits (b ∷ l) e = by (isDigit 10 b) refl
+  where
+    by : (t : Bool) → isDigit 10 b ≡ t → isDigit 10 b ≡ false
+    by false h = h
+    by true h =
+        let q : past l ≡ b ∷ l = ap (λ (t : Bool). cond t (past l) (b ∷ l)) (sym h) ∙ e in
+        let k : length (past l) ≡ suc (length l) = ap length q in
+        absurd (omega (arith, past-short l))
+
+pub first-at : (text : List ℕ) (p : ℕ) → byteAt (drop p text) 0 ≡ byteAt text p
+first-at text p = getD-drop p text 0 0 ∙ ap (byteAt text) (let z : p + 0 ≡ p = omega arith in z)
+
+-- a byte that is not 0 stands inside the text
+pub byte-inside : (text : List ℕ) (p b : ℕ) → b ≡ byteAt text p → 0 < b → p < length text
+byte-inside text p b e h = by (ltb p (length text)) refl
+  where
+    by : (t : Bool) → ltb p (length text) ≡ t → p < length text
+    by true g = ltb-true p (length text) g
+    by false g = absurd (let z : 0 ≡ byteAt text p = past-end text p (ltb-false p (length text) g) in omega arith)
+
+module _ (most : ℕ) (text : List ℕ) (p : ℕ) (s : Scan) (found-here : Found most text p s) where
+  pub found-none : s .digits ≡ 0 → isDigit 10 (byteAt (drop p text) 0) ≡ false
+  found-none e = no-digits (drop p text) (sym (found-here .rest) ∙ ap (λ (i : ℕ). drop i text) (let z : p + s .digits ≡ p = omega arith in z))
+
+  pub found-some : (s .digits ≡ 0 → ⊥) → isDigit 10 (byteAt (drop p text) 0) ≡ true
+  found-some n = ap (isDigit 10) (first-at text p ∙ ap (byteAt text) (let z : p ≡ p + 0 = omega arith in z)) ∙ found-here .digits .all 0 (positive (s .digits) n)
+    where
+      positive : (k : ℕ) → (k ≡ 0 → ⊥) → 0 < k
+      positive zero n = absurd (n refl)
+      positive (suc k) n = omega arith
+
+  pub found-next : byteAt (past (drop p text)) 0 ≡ byteAt text (p + s .digits)
+  found-next = ap (λ (l : List ℕ). byteAt l 0) (sym (found-here .rest)) ∙ first-at text (p + s .digits)
+
+  pub found-after : drop 1 (past (drop p text)) ≡ drop (p + s .digits + 1) text
+  found-after = ap (drop 1) (sym (found-here .rest)) ∙ drop-drop 1 (p + s .digits) text

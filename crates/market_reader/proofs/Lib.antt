@@ -1,0 +1,5 @@
+-- Laws that the proofs cite. Assumes nothing.
+mod HeadLines
+mod EntryLines
+mod Placing
+mod Answering
