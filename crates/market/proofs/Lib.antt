@@ -1,0 +1,6 @@
+-- Laws of Matrix Market texts, for the proofs of their reader and their writer. Assumes nothing.
+-- a number in a text, and a float as a whole number
+pub mod Decimals
+pub mod WholeFloats
+-- how long a text is
+pub mod Length
