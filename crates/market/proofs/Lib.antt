@@ -4,3 +4,5 @@ pub mod Decimals
 pub mod WholeFloats
 -- how long a text is
 pub mod Length
+-- what was written, read again
+pub mod Lines
