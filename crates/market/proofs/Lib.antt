@@ -6,3 +6,5 @@ pub mod WholeFloats
 pub mod Length
 -- what was written, read again
 pub mod Lines
+pub mod Places
+pub mod Zeros
