@@ -8,3 +8,6 @@ pub mod Length
 pub mod Lines
 pub mod Places
 pub mod Zeros
+pub mod EntryLines
+pub mod MatrixBack
+pub mod RoundTrip
