@@ -11,3 +11,7 @@ pub mod Zeros
 pub mod EntryLines
 pub mod MatrixBack
 pub mod RoundTrip
+-- what was read, written again
+pub mod DecimalsBack
+pub mod SignedLines
+pub mod WriteBack

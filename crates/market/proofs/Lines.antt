@@ -59,10 +59,10 @@ unfolding headOf
 head-general text h e = rw (le-ltb largest.market (length text) h, e)
 
 module _ (w n : ℕ) (a : List Float) (few : n ≤ largest.n) where
-  abbrev body : List ℕ
+  abbrev pub body : List ℕ
   body = decimalText n ++ (byte.space ∷ (decimalText n ++ (byte.newline ∷ linesOf w n a (n * n))))
 
-  text-shape : textOf w n a ≡ header false ++ body
+  pub text-shape : textOf w n a ≡ header false ++ body
   unfolding textOf sizeText
   text-shape =
       append-assoc (header false) (sizeText n) (linesOf w n a (n * n))
