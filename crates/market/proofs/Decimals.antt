@@ -6,8 +6,7 @@ use mathlib.Core.List.{List, [], _∷_, _++_}
 use native.Mathlib.Nat.{pow-suc, mul-assoc, div-lt-iff-lt-mul}
 use native.Mathlib.Omega.{arith}
 use lib.Dec.{ltb, lit<}
-use lib.ListN.{length, getD, List·getD-append}
-use lib.Seq.{append-snoc}
+use lib.ListN.{length, List·getD-append}
 use borrow.Author.Tests.{lt-ltb, ltb-true}
 use Rattle.io.specs.Digits.{digits, glyph}
 use Rattle.refusals.specs.Largest as largest
@@ -27,7 +26,7 @@ pub digits-after : (b : ℕ) (l : List ℕ) → AllDigits (b ∷ l) → AllDigit
 digits-after b l d j h = d (suc j) (omega arith)
 
 -- ---- digits in front of a text
-pub worth-more : (l r : List ℕ) (v : ℕ) → AllDigits l → worth v (l ++ r) ≡ worth (worth v l) r
+worth-more : (l r : List ℕ) (v : ℕ) → AllDigits l → worth v (l ++ r) ≡ worth (worth v l) r
 unfolding worth
 worth-more [] r v d = refl
 worth-more (b ∷ l) r v d = rw (d 0 (omega arith)) (worth-more l r (v * 10 + digitValue b) (digits-after b l d))
@@ -60,14 +59,14 @@ unfolding digitValue
 newline-ends = refl
 
 -- ---- the digits of a number
-glyph-value : (d : ℕ) → d < 10 → digitValue (glyph d) ≡ d
-glyph-value d h =
-    ap digitValue (let e : glyph d ≡ 48 + d = rw (lt-ltb d 10 h) in e)
-    ∙ sym (value-digit (48 + d) (omega arith) (omega arith))
-    ∙ (let z : 48 + d - 48 ≡ d = omega arith in z)
+value-glyph : (d : ℕ) → d < 10 → digitValue (glyph d) ≡ d
+value-glyph d h =
+    ap digitValue (let e : glyph d ≡ byte.digitZero + d = rw (lt-ltb d 10 h) in e)
+    ∙ sym (value-digit (byte.digitZero + d) (omega arith) (omega arith))
+    ∙ (let z : byte.digitZero + d - byte.digitZero ≡ d = omega arith in z)
 
-pub glyph-digit : (d : ℕ) → d < 10 → isDigit 10 (glyph d) ≡ true
-glyph-digit d h = ap (λ (v : ℕ). ltb v 10) (glyph-value d h) ∙ lt-ltb d 10 h
+glyph-digit : (d : ℕ) → d < 10 → isDigit 10 (glyph d) ≡ true
+glyph-digit d h = ap (λ (v : ℕ). ltb v 10) (value-glyph d h) ∙ lt-ltb d 10 h
 
 low : (n : ℕ) → n % 10 < 10
 low n = omega arith
@@ -101,7 +100,7 @@ worth-digits zero n x h = omega arith
 worth-digits (suc k) n x h =
     let g = glyph (n % 10) in
     worth-more (digits 10 k (n / 10)) (g ∷ []) x (written-digits k (n / 10))
-    ∙ rw (glyph-digit (n % 10) (low n), glyph-value (n % 10) (low n), worth-digits k (n / 10) x (without-last n k h)) (grown x (10 ^ k) (10 ^ suc k) n (pow-suc 10 k))
+    ∙ rw (glyph-digit (n % 10) (low n), value-glyph (n % 10) (low n), worth-digits k (n / 10) x (without-last n k h)) (grown x (10 ^ k) (10 ^ suc k) n (pow-suc 10 k))
 
 -- ---- a number in decimal: digits enough, and one at least
 enough-by : (d n : ℕ) (t : Bool) → ltb n 10 ≡ t → n / 10 < 10 ^ places d (n / 10) → n < 10 ^ cond t 1 (suc (places d (n / 10)))

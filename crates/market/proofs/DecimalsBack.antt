@@ -1,7 +1,6 @@
 -- Digits that were read, written again: without a zero in front they are the decimal of what they spell. Assumes nothing.
-use Prim.Native.Nat.{ℕ, zero, suc, _+_, _-_, _*_, _/_, _%_, _^_, _<_, _≤_}
-use mathlib.Core.Path.{_≡_, refl, sym, ap, _∙_, subst}
-use mathlib.Core.Bool.{true}
+use Prim.Native.Nat.{ℕ, suc, _+_, _-_, _*_, _/_, _%_, _^_, _<_, _≤_}
+use mathlib.Core.Path.{_≡_, sym, ap, _∙_, subst}
 use mathlib.Core.List.{List, [], _∷_, _++_, append-nil}
 use native.Mathlib.Nat.{pow-suc, mul-assoc, mul-right-comm, mul-le-mul-right}
 use native.Mathlib.Omega.{arith}
@@ -9,8 +8,7 @@ use lib.ListN.{length}
 use lib.Seq.{append-snoc}
 use borrow.Author.Tests.{ltb-true}
 use Rattle.io.specs.Digits.{digits, glyph, Fewest}
-use Rattle.texts.specs.Bytes as byte
-use Rattle.texts.specs.Digits.{byteAt, isDigit, digitValue}
+use Rattle.texts.specs.Digits.{digitValue}
 use Rattle.texts.specs.Numbers.{decimalText}
 use Rattle.texts.specs.Whole.{worth}
 use Rattle.texts.proofs.Decimals.{decimal-is}
@@ -69,14 +67,10 @@ worth-long [] d s h = absurd (omega arith)
 worth-long (b ∷ l) d s h =
     let small = first-small b l d in
     let p = 10 ^ length l in
-    let some : 0 < digitValue b = positive (digitValue b) (λ e. absurd (let z : suc (length l) ≡ 1 = s (sym (glyph-value b (omega arith)) ∙ ap glyph e) in omega arith)) in
+    let other : digitValue b ≡ 0 → ⊥ = (λ e. let z : suc (length l) ≡ 1 = s (sym (glyph-value b (omega arith)) ∙ ap glyph e) in omega arith) in
     let g : 1 * p ≤ (0 * 10 + digitValue b) * p = mul-le-mul-right p (omega arith) in
     subst (λ (k : ℕ). 10 ^ k ≤ worth 0 (b ∷ l)) (let z : length l ≡ suc (length l) - 1 = omega arith in z)
     (rw (d 0 (omega arith)) (omega (arith, worth-least l (0 * 10 + digitValue b) (digits-after b l d))))
-  where
-    positive : (v : ℕ) → (v ≡ 0 → ⊥) → 0 < v
-    positive zero n = absurd (n refl)
-    positive (suc v) n = omega arith
 
 pub decimal-back : (l : List ℕ) → Digits l → Short l → worth 0 l < 2 ^ 64 → decimalText (worth 0 l) ≡ l
 decimal-back l d s h =

@@ -1,5 +1,5 @@
 -- The lines of all entries are those of the list of the entries, and are read one after the other. Assumes nothing.
-use Prim.Native.Nat.{ℕ, zero, suc, _+_, _*_, _<_, _≤_}
+use Prim.Native.Nat.{ℕ, zero, suc, _+_, _*_, _<_}
 use mathlib.Core.Path.{_≡_, refl, sym, ap, _∙_}
 use mathlib.Core.Bool.{Bool, true, cond}
 use mathlib.Core.List.{List, [], _∷_, _++_, map, append-assoc, append-nil}
@@ -7,9 +7,9 @@ use native.Mathlib.Omega.{arith}
 use lib.ListN.{length, getD}
 use lib.Ieee.{Float, lt}
 use Rattle.real.specs.Operations as float
-use Rattle.algebra.specs.Outcome.{Outcome, value, mapOutcome}
+use Rattle.algebra.specs.Outcome.{value, mapOutcome}
 use Rattle.algebra.specs.Flat.{tabulate}
-use Rattle.market.specs.Entries.{Line, line, entryOf, entryThen, numbersOf}
+use Rattle.market.specs.Entries.{line, entryOf, entryThen, numbersOf}
 use Rattle.market.specs.Text.{magnitude, wholePart, isWhole, numberLine, lineOf, entryAt, linesOf}
 use Rattle.market.proofs.WholeFloats.{backOf, whole-small}
 use Rattle.market.proofs.Lines.{number-read}

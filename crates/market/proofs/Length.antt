@@ -1,8 +1,8 @@
 -- How long a text is: every line has a bound, so that the writer's page holds every text. Assumes nothing.
-use Prim.Native.Nat.{ℕ, zero, suc, _+_, _*_, _/_, _^_, _<_, _≤_}
+use Prim.Native.Nat.{ℕ, zero, suc, _*_, _/_, _^_, _<_, _≤_}
 use mathlib.Core.Path.{_≡_, refl}
 use mathlib.Core.Bool.{Bool, true, false, cond}
-use mathlib.Core.List.{List, [], _∷_, _++_}
+use mathlib.Core.List.{List, [], _++_}
 use native.Mathlib.Nat.{mul-le-mul-left, mul-le-mul-right, le-trans}
 use native.Mathlib.Omega.{arith}
 use lib.Dec.{ltb}
@@ -11,7 +11,6 @@ use lib.Ieee.{Float, lt}
 use borrow.Author.Tests.{ltb-false}
 use Rattle.refusals.specs.Largest as largest
 use Rattle.real.specs.Operations as float
-use Rattle.texts.specs.Bytes as byte
 use Rattle.texts.specs.Numbers.{places, decimalText}
 use Rattle.texts.proofs.Decimals.{length-digits}
 use Rattle.market.specs.Format.{header, sign}

@@ -5,20 +5,20 @@ use mathlib.Core.Bool.{Bool, true, false, cond, not, true≢false}
 use mathlib.Core.List.{List, [], _∷_, _++_, append-assoc}
 use native.Mathlib.Omega.{arith}
 use lib.Dec.{eqb}
-use lib.ListN.{length, getD, drop, List·getD-append}
+use lib.ListN.{length, List·getD-append}
 use lib.Seq.{append-snoc}
 use lib.Ieee.{Float}
 use borrow.Author.Tests.{le-ltb, eq-eqb, ne-eqb}
 use Rattle.refusals.specs.Largest as largest
-use Rattle.algebra.specs.Outcome.{Outcome, value, mapOutcome}
+use Rattle.algebra.specs.Outcome.{value, mapOutcome}
 use Rattle.texts.specs.Bytes as byte
 use Rattle.texts.specs.Digits.{byteAt, isDigit, digitValue, startsWith}
 use Rattle.texts.specs.Numbers.{decimalText}
-use Rattle.texts.specs.Whole.{worth, past}
+use Rattle.texts.specs.Whole.{worth}
 use Rattle.texts.proofs.Every.{every-true}
 use Rattle.market.specs.Format.{Digits, header, sign, signed}
 use Rattle.market.specs.Head.{Opened, opened, comments, squared, columnsLine, sizeLine, afterHeader, headOf, sizeOf}
-use Rattle.market.specs.Entries.{Line, line, isOver, magnitudeLine, entryOf}
+use Rattle.market.specs.Entries.{line, magnitudeLine, entryOf}
 use Rattle.market.specs.Text.{numberLine, linesOf, sizeText, textOf}
 use Rattle.market.proofs.Decimals.{first-digit, worth-read, past-read, space-ends, newline-ends, decimal-digits, decimal-worth}
 use Rattle.market.proofs.Length.{text-short}

@@ -1,6 +1,6 @@
 -- The matrix of a text that was written: every float stands where it stood. Assumes nothing.
 use Prim.Native.Nat.{ℕ, _+_, _*_, _/_, _%_, _<_, _≤_}
-use mathlib.Core.Path.{_≡_, refl, sym, ap, _∙_, subst}
+use mathlib.Core.Path.{_≡_, refl, sym, ap, _∙_}
 use mathlib.Core.Bool.{Bool, true, false, cond}
 use mathlib.Core.List.{List, map}
 use native.Mathlib.Nat.{div-lt-iff-lt-mul}
@@ -14,8 +14,7 @@ use borrow.Author.Tests.{eq-eqb, ne-eqb}
 use Rattle.refusals.specs.Largest as largest
 use Rattle.refusals.specs.Number as refusal
 use Rattle.real.specs.Operations as float
-use Rattle.algebra.specs.Outcome.{Outcome, value, refused}
-use Rattle.algebra.specs.Flat.{tabulate}
+use Rattle.algebra.specs.Outcome.{value, refused}
 use Rattle.algebra.proofs.Flat.{tabulate-length, tabulate-at, tabulate-map}
 use Rattle.texts.proofs.Every.{every-at}
 use Rattle.market.specs.Format.{countOf}
@@ -23,7 +22,7 @@ use Rattle.market.specs.Entries.{numbersOf, placeOf, floatOf, matrixOf}
 use Rattle.market.specs.Read.{readAnswered, readNumbers, readOpened, readBody, readLeft}
 use Rattle.market.specs.Text.{isWhole, entryAt, linesOf, textOf, fitsAt, isWritable}
 use Rattle.market.proofs.WholeFloats.{backOf}
-use Rattle.market.proofs.Places.{turned, turned-inside, turned-back, first-rest, first-record, first-inside, first-of}
+use Rattle.market.proofs.Places.{turned, turned-inside, turned-back, first-rest, first-inside, first-of}
 use Rattle.market.proofs.Lines.{head-read}
 use Rattle.market.proofs.EntryLines.{entriesOf, lines-each, each-read}
 
@@ -47,7 +46,7 @@ matrix-at w n l j h = tabulate-at (floatOf w false n l) (n * n * w) 0 j float.ze
 
 -- ---- a matrix that was written, read back
 module _ (w n : ℕ) (a : List Float) (positive : 0 < w) (size : length a ≡ n * n * w) (good : isWritable w a ≡ true) where
-  pub fits-each : (j : ℕ) → j < n * n * w → fitsAt w a j ≡ true
+  fits-each : (j : ℕ) → j < n * n * w → fitsAt w a j ≡ true
   unfolding isWritable
   fits-each j h = every-at (fitsAt w a) (length a) j good (omega arith)
 

@@ -1,6 +1,6 @@
 -- Where the entries stand: column by column in a text, row by row in a matrix, and the one order turned twice is itself. Assumes nothing.
-use Prim.Native.Nat.{ℕ, zero, suc, _+_, _*_, _/_, _%_, _<_, _≤_}
-use mathlib.Core.Path.{_≡_, sym, ap, _∙_}
+use Prim.Native.Nat.{ℕ, suc, _+_, _*_, _/_, _%_, _<_, _≤_}
+use mathlib.Core.Path.{_≡_, ap, _∙_}
 use native.Mathlib.Nat.{mul-add-mod-self-right, mul-add-div-right, mod-eq-of-lt, div-eq-of-lt, mod-lt, div-add-mod', div-lt-iff-lt-mul, mul-le-mul-right}
 use native.Mathlib.Omega.{arith}
 
@@ -10,14 +10,7 @@ turned n k = k % n * n + k / n
 
 module _ (n k : ℕ) (inside : k < n * n) where
   some : 0 < n
-  some = by n inside
-    where
-      by : (n : ℕ) → k < n * n → 0 < n
-      by zero h = absurd (none (let z : 0 * 0 ≡ 0 = omega arith in z) h)
-        where
-          none : {x : ℕ} → x ≡ 0 → k < x → ⊥
-          none e g = omega arith
-      by (suc n) h = omega arith
+  some = let other : n ≡ 0 → ⊥ = (λ e. let z : n * n ≡ 0 * 0 = (λ i. e i * e i) in omega arith) in omega arith
 
   outer : k / n < n
   outer = div-lt-iff-lt-mul some .1 inside

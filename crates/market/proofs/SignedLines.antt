@@ -1,12 +1,12 @@
 -- The float of an entry is a whole number of the entry's sign and magnitude, so that its line is the entry's. Assumes nothing.
 use Prim.Native.Nat.{ℕ, _+_, _*_, _<_, _≤_}
-use mathlib.Core.Path.{_≡_, refl, sym, ap, _∙_}
-use mathlib.Core.Bool.{Bool, true, false, cond, _&&_, Bool·beq, true≢false}
+use mathlib.Core.Path.{_≡_, refl, ap, _∙_}
+use mathlib.Core.Bool.{Bool, true, false, cond, true≢false}
 use mathlib.Core.List.{[]}
 use native.Mathlib.Nat.{mul-pos, mul-le-mul-right}
 use native.Mathlib.Omega.{arith}
 use lib.Dec.{T, le→leb}
-use lib.IntN.{ℤ, pos}
+use lib.IntN.{pos}
 use lib.Ieee.{Float, nan, inf, fin, binary64, up, down, neg, lt, eq, ofInt, ofBits, inFloat}
 use lib.Ieee.Fits.{down-pos}
 use lib.Ieee.Exact.{HasValue}
@@ -15,8 +15,8 @@ use borrow.Author.Tests.{lt-ltb, le-ltb, le-leb, eq-eqb}
 use Rattle.refusals.specs.Largest as largest
 use Rattle.real.specs.Operations as float
 use Rattle.market.specs.Format.{signed}
-use Rattle.market.specs.Text.{magnitude, wholePart, inRange, isWholeMagnitude, isWhole, numberLine, lineOf}
-use Rattle.market.proofs.WholeFloats.{none, zero-is, has-value, magnitude-plain, magnitude-minus}
+use Rattle.market.specs.Text.{magnitude, wholePart, isWholeMagnitude, isWhole, numberLine, lineOf}
+use Rattle.market.proofs.WholeFloats.{plusNothing, zero-is, has-value}
 
 neg-back : (x : Float) → neg (neg x) ≡ x
 unfolding neg
@@ -28,12 +28,12 @@ neg-back (fin false m e) = refl
 
 -- ---- a float y whose value is v
 module _ (v : ℕ) where
-  not-below : (y : Float) → HasValue y false v 1 → lt y none ≡ false
+  not-below : (y : Float) → HasValue y false v 1 → lt y plusNothing ≡ false
   unfolding lt
   not-below (fin true m e) h = absurd (true≢false (h .0))
   not-below (fin false m e) h = le-ltb (m * up e * down (pos 0)) (0 * up (pos 0) * down e) (let z : 0 * up (pos 0) * down e ≡ 0 = omega arith in omega arith)
 
-  minus-below : (y : Float) → HasValue y false v 1 → 0 < v → lt (neg y) none ≡ true
+  minus-below : (y : Float) → HasValue y false v 1 → 0 < v → lt (neg y) plusNothing ≡ true
   unfolding lt neg
   minus-below (fin true m e) h some = absurd (true≢false (h .0))
   minus-below (fin false m e) h some = let g : 0 < v * down e = mul-pos some (down-pos e) in let q = h .1 in lt-ltb 0 (m * up e * down (pos 0) + 0 * up (pos 0) * down e) (omega arith)
@@ -59,22 +59,22 @@ module _ (v : ℕ) where
 
 -- ---- the float of v
 module _ (v : ℕ) (small : v ≤ largest.whole) where
-  abbrev y : Float
-  y = ofInt binary64 (pos v)
+  abbrev whole : Float
+  whole = ofInt binary64 (pos v)
 
-  has : HasValue y false v 1
+  has : HasValue whole false v 1
   has = has-value v small
 
   in-float : T (inFloat binary64 (pos v))
   unfolding inFloat
   in-float = le→leb v largest.whole small
 
-  part-is : wholePart y ≡ v
+  part-is : wholePart whole ≡ v
   part-is = unsigned-back binary64 64 v in-float (omega arith) .1
 
-  whole-magnitude : isWholeMagnitude y ≡ true
+  whole-magnitude : isWholeMagnitude whole ≡ true
   unfolding isWholeMagnitude
-  whole-magnitude = rw (above-minus-one v y has, below-top v y has small, part-is, le-leb v largest.whole small, itself v y has)
+  whole-magnitude = rw (above-minus-one v whole has, below-top v whole has small, part-is, le-leb v largest.whole small, itself v whole has)
 
   -- with a minus only where it is not zero
   module _ (minus : Bool) (some : minus ≡ true → 0 < v) where
@@ -83,15 +83,15 @@ module _ (v : ℕ) (small : v ≤ largest.whole) where
     sign-is = by minus some
       where
         by : (t : Bool) → (t ≡ true → 0 < v) → lt (signed t v) float.zero ≡ t
-        by true s = rw (lt-ltb 0 v (s refl), zero-is) (minus-below v y has (s refl))
-        by false s = ap (lt y) zero-is ∙ not-below v y has
+        by true s = rw (lt-ltb 0 v (s refl), zero-is) (minus-below v whole has (s refl))
+        by false s = ap (lt whole) zero-is ∙ not-below v whole has
 
-    magnitude-is : magnitude (signed minus v) ≡ y
+    magnitude-is : magnitude (signed minus v) ≡ whole
     unfolding signed magnitude
     magnitude-is = ap (λ (t : Bool). cond t (neg (signed minus v)) (signed minus v)) sign-is ∙ by minus some
       where
-        by : (t : Bool) → (t ≡ true → 0 < v) → cond t (neg (signed t v)) (signed t v) ≡ y
-        by true s = rw (lt-ltb 0 v (s refl)) (neg-back y)
+        by : (t : Bool) → (t ≡ true → 0 < v) → cond t (neg (signed t v)) (signed t v) ≡ whole
+        by true s = rw (lt-ltb 0 v (s refl)) (neg-back whole)
         by false s = refl
 
     pub signed-whole : isWhole (signed minus v) ≡ true

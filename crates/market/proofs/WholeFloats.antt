@@ -1,4 +1,4 @@
--- A float as a whole number: what the test of it says, and that the float of a whole number passes. Assumes nothing.
+-- A float as a whole number: what the test of it says, and the value of a whole number's float. Assumes nothing.
 use Prim.Native.Nat.{ℕ, _≤_}
 use mathlib.Core.Path.{_≡_, refl, ap}
 use mathlib.Core.Bool.{true, false, _&&_}
@@ -14,11 +14,11 @@ use Rattle.texts.proofs.Every.{both-true}
 use Rattle.market.specs.Format.{signed}
 use Rattle.market.specs.Text.{magnitude, wholePart, inRange, isWholeMagnitude, isWhole}
 
--- the float zero
-abbrev pub none : Float
-none = fin false 0 (pos 0)
+-- +0.0, by its sign, its digits and its exponent
+abbrev pub plusNothing : Float
+plusNothing = fin false 0 (pos 0)
 
-pub zero-is : float.zero ≡ none
+pub zero-is : float.zero ≡ plusNothing
 unfolding ofBits
 zero-is = refl
 
@@ -52,6 +52,6 @@ pub has-value : (v : ℕ) → v ≤ largest.whole → HasValue (ofInt binary64 (
 unfolding ofInt
 has-value v small = round-whole binary64 false v small
 
-pub of-zero : (v : ℕ) → v ≡ 0 → ofInt binary64 (pos v) ≡ none
+pub of-zero : (v : ℕ) → v ≡ 0 → ofInt binary64 (pos v) ≡ plusNothing
 unfolding ofInt round
 of-zero v e = ap (λ (n : ℕ). ofInt binary64 (pos n)) e

@@ -1,8 +1,8 @@
 -- A tidy text of a general matrix that was read, written again, is that text. Assumes nothing.
-use Prim.Native.Nat.{ℕ, zero, suc, _+_, _*_, _/_, _%_, _^_, _<_, _≤_}
+use Prim.Native.Nat.{ℕ, zero, suc, _+_, _*_, _/_, _%_, _<_}
 use mathlib.Core.Path.{_≡_, refl, sym, ap, _∙_}
-use mathlib.Core.Bool.{Bool, true, false, cond, true≢false}
-use mathlib.Core.List.{List, [], _∷_, _++_}
+use mathlib.Core.Bool.{true, false, cond, true≢false}
+use mathlib.Core.List.{List, _∷_, _++_}
 use native.Mathlib.Decide.{ℕ-discrete}
 use native.Mathlib.Omega.{arith}
 use lib.Dec.{eqb}
@@ -20,8 +20,8 @@ use Rattle.texts.specs.Whole.{worth}
 use Rattle.texts.proofs.Every.{every-true}
 use Rattle.market.specs.Format.{Digits, Short, Entries, Market, header, sign, signed, countOf}
 use Rattle.market.specs.Format.Entries.{none, entry}
-use Rattle.market.specs.Entries.{floatOf, matrixOf}
-use Rattle.market.specs.Text.{isWhole, lineOf, entryAt, linesOf, textOf, fitsAt, isWritable}
+use Rattle.market.specs.Entries.{matrixOf}
+use Rattle.market.specs.Text.{isWhole, entryAt, linesOf, textOf, fitsAt, isWritable}
 use Rattle.market.specs.Write.{page, writeText, writeLeft}
 use Rattle.market.proofs.Places.{turned, turned-inside, turned-back, first-rest, first-record, first-inside}
 use Rattle.market.proofs.WholeFloats.{zero-is, of-zero}
@@ -82,24 +82,26 @@ module _ (w n : ℕ) (numbers : List Float) (positive : 0 < w) where
 
 -- ---- the text
 module _ (w n : ℕ) (numbers : List Float) (t : List ℕ) (positive : 0 < w) (market : Market true false n numbers t) where
-  abbrev a : List Float
-  a = matrixOf w false n numbers
+  abbrev matrix : List Float
+  matrix = matrixOf w false n numbers
 
-  lines-back : linesOf w n a (n * n) ≡ market .entries
+  lines-back : linesOf w n matrix (n * n) ≡ market .entries
   unfolding countOf
-  lines-back = lines-each w n a ∙ ap linesEach (entries-back w n numbers positive (market .count)) ∙ entries-lines (market .entries) numbers (market .listed)
+  lines-back = lines-each w n matrix ∙ ap linesEach (entries-back w n numbers positive (market .count)) ∙ entries-lines (market .entries) numbers (market .listed)
 
   size-digits : (l : List ℕ) → Digits l → Short l → worth 0 l ≡ n → decimalText n ≡ l
   size-digits l all short same = let few = market .few in ap decimalText (sym same) ∙ decimal-back l all short (omega arith)
 
-  pub text-same : textOf w n a ≡ t
+  -- what is written of the matrix that was read is the text that it was read from
+  pub text-same : textOf w n matrix ≡ t
   text-same =
-      text-shape w n a (market .few)
+      text-shape w n matrix (market .few)
       ∙ (λ i. header false ++ (size-digits (market .rows) (market .row-digits) (market .short-rows refl) (market .height) i ++ (byte.space ∷ (size-digits (market .columns) (market .column-digits) (market .short-columns refl) (market .breadth) i ++ (byte.newline ∷ lines-back i)))))
       ∙ (λ i. header false ++ (sym (market .plain refl) i ++ (market .rows ++ (byte.space ∷ (market .columns ++ (byte.newline ∷ market .entries))))))
       ∙ sym (market .lines)
 
-  pub write-back : (text : List ℕ) → length text ≡ page → writeLeft w n (matrixOf w false n numbers) text ≡ writeText t
+  -- Whatever the bytes lent: the writer, given the matrix that a tidy text of a general matrix is read to, leaves that text.
+  pub write-back : (text : List ℕ) → length text ≡ page → writeLeft w n matrix text ≡ writeText t
   unfolding writeLeft
   write-back text room =
-      rw (le-ltb largest.n n (market .few), eq-eqb (length a) (n * n * w) (matrix-length w n numbers), eq-eqb (length text) page room, writable-back w n numbers positive (entries-whole (market .entries) numbers (market .listed))) (ap writeText text-same)
+      rw (le-ltb largest.n n (market .few), eq-eqb (length matrix) (n * n * w) (matrix-length w n numbers), eq-eqb (length text) page room, writable-back w n numbers positive (entries-whole (market .entries) numbers (market .listed))) (ap writeText text-same)
