@@ -42,7 +42,7 @@ fewest-most b least n k m hb hl hn f = by (ltb m k) refl
         clash x y z = omega arith
     by false t = ltb-false m k t
 
-decimal-is : (n k : ℕ) → n < 2 ^ 64 → Fewest 10 1 n k → digits 10 k n ≡ decimalText n
+pub decimal-is : (n k : ℕ) → n < 2 ^ 64 → Fewest 10 1 n k → digits 10 k n ≡ decimalText n
 unfolding decimalText
 decimal-is n k h f = ap (λ (x : ℕ). digits 10 x n) (places-is 19 n k (fewest-most 10 1 n k 20 (lit< tt) (lit≤ tt) (lt-of-lt-of-le h (lit≤ tt)) f) f)
 

@@ -24,7 +24,7 @@ low-glyph d h = rw (lt-ltb d 10 h)
 high-glyph : (d : ℕ) → 10 ≤ d → glyph d ≡ 87 + d
 high-glyph d h = rw (le-ltb d 10 h)
 
-glyph-value : (b : ℕ) → digitValue b < 16 → glyph (digitValue b) ≡ b
+pub glyph-value : (b : ℕ) → digitValue b < 16 → glyph (digitValue b) ≡ b
 glyph-value b h = under (ltb b 48) refl
   where
     over : (t : Bool) → ltb letterF b ≡ t → letterA ≤ b → glyph (digitValue b) ≡ b
