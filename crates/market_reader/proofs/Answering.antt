@@ -8,6 +8,8 @@ use lib.ListN.{length, drop}
 use lib.Ieee.{Float}
 use borrow.Author.Tests.{eq-eqb, ne-eqb}
 use Rattle.refusals.specs.Number as refusal
+use Rattle.refusals.specs.Largest as largest
+use Rattle.matrices.specs.Matrix.{Square}
 use Rattle.algebra.specs.Outcome.{Outcome, value, refused, mapOutcome}
 use Rattle.market.specs.declared.MarketAnswer.{MarketAnswer}
 use Rattle.market.specs.Answers.{marketOutcome}
@@ -37,6 +39,10 @@ module _ (w : ℕ) (out : List Float) (s : Bool) (n : ℕ) (rest : List ℕ) whe
 
     pub read-good : (left : List Float) → number ≡ 0 → left ≡ matrixOf w s n l → readAnswered (value n) left ≡ readBody w out s n rest
     read-good left h e = ap (readAnswered (value n)) e ∙ by-numbers (value l) (ap (λ (t : Bool). cond t (value l) (refused number)) (eq-eqb number 0 h))
+
+-- the lent floats are those of the matrix
+pub square-lent : (n w start most : ℕ) (out : List Float) → (start ≤ most) × (n ≤ largest.n) × (0 < w) × (w ≤ largest.width) → length out ≡ n * n * w → Square w n out
+square-lent n w start most out pre size = record { small = pre .1; some = pre .2; narrow = pre .3; full = size }
 
 -- ---- the head decides
 module _ (text : List ℕ) (r : Opening) (told : TellsHead text r (headOf text)) where

@@ -18,9 +18,9 @@ use Rattle.texts.specs.Whole.{worth, past, Capped, Found}
 use Rattle.texts.proofs.Every.{every-at}
 use Rattle.texts.proofs.WholeNumbers.{byte-inside, found-none, found-some, found-next, found-after}
 use Rattle.market.specs.Format.{header}
-use Rattle.market.specs.Head.{Opened, opened, comments, squared, columnsLine, sizeLine, afterHeader, headOf}
+use Rattle.market.specs.Head.{Opened, opened, comments, squared, columnsLine, sizeLine, headOf}
 use Rattle.market_reader.specs.declared.Opening.{Opening}
-use Rattle.market_reader.specs.Told.{Opens, TellsHead}
+use Rattle.market_reader.specs.Told.{AfterComments, Opens, TellsHead}
 
 -- ---- comment lines
 pub of-comment-not : (inside : Bool) (b : ℕ) → inside ≡ false → eqb b byte.percent ≡ (inside || eqb b byte.percent)
@@ -50,12 +50,12 @@ module _ (text : List ℕ) (p : ℕ) where
       left = here .left ∙ by-first h true (sym e ∙ t) ∙ ap (λ (k : ℕ). comments (not (eqb (byteAt text i) byte.newline)) (drop k text)) (let z : suc i ≡ i + 1 = omega arith in z);
     }
 
-    pub passing-stops : (of : Bool) → i < length text → of ≡ (inside || eqb (byteAt text i) byte.percent) → of ≡ false → (drop i text ≡ comments false (drop p text)) × (i ≤ length text)
-    passing-stops of h e t = (sym (here .left ∙ by-first h false (sym e ∙ t)), here .within)
+    pub passing-stops : (of : Bool) → i < length text → of ≡ (inside || eqb (byteAt text i) byte.percent) → of ≡ false → AfterComments text p i
+    passing-stops of h e t = record { said = sym (here .left ∙ by-first h false (sym e ∙ t)); inside = here .within }
 
-    pub passing-ends : length text ≤ i → (drop i text ≡ comments false (drop p text)) × (i ≤ length text)
+    pub passing-ends : length text ≤ i → AfterComments text p i
     unfolding comments
-    passing-ends h = (sym (here .left ∙ ap (comments inside) (drop-of-length-le text h) ∙ sym (drop-of-length-le text h)), here .within)
+    passing-ends h = record { said = sym (here .left ∙ ap (comments inside) (drop-of-length-le text h) ∙ sym (drop-of-length-le text h)); inside = here .within }
 
 -- ---- the size line: rows found from p on
 module _ (text : List ℕ) (s : Bool) (p : ℕ) (n : Scan) (rows : Found largest.whole text p n) where
@@ -135,27 +135,28 @@ headed-long s text last e h n =
     let same : byteAt text last ≡ byteAt (header s) last = eqb-true (byteAt text last) (byteAt (header s) last) (every-at (λ i. eqb (byteAt text i) (byteAt (header s) i)) (length (header s)) last e h) in
     byte-inside text last byte.newline (n ∙ sym same) (omega arith)
 
-pub general-long : (text : List ℕ) → startsWith (header false) text ≡ true → length (header false) ≤ length text
-general-long text e = let g = headed-long false text 43 e (omega arith) refl in omega arith
+module _ (text : List ℕ) (t : Bool) (told : t ≡ startsWith (header false) text) where
+  pub general-long : t ≡ true → length (header false) ≤ length text
+  general-long e = let g = headed-long false text 43 (sym told ∙ e) (omega arith) refl in omega arith
 
-pub symmetric-long : (text : List ℕ) → startsWith (header true) text ≡ true → length (header true) ≤ length text
-symmetric-long text e = let g = headed-long true text 45 e (omega arith) refl in omega arith
+module _ (text : List ℕ) (t : Bool) (told : t ≡ startsWith (header true) text) where
+  pub symmetric-long : t ≡ true → length (header true) ≤ length text
+  symmetric-long e = let g = headed-long true text 45 (sym told ∙ e) (omega arith) refl in omega arith
 
-module _ (text : List ℕ) where
-  pub head-long : largest.market < length text → refused refusal.unreadableMarket ≡ headOf text
+pub head-long : (text : List ℕ) → largest.market < length text → refused refusal.unreadableMarket ≡ headOf text
+unfolding headOf
+head-long text h = rw (lt-ltb largest.market (length text) h)
+
+module _ (text : List ℕ) (few : length text ≤ largest.market) (t : Bool) (told : t ≡ startsWith (header false) text) where
+  pub head-general : (r : Opening) (p : ℕ) → t ≡ true → AfterComments text (length (header false)) p → TellsHead text r (sizeLine false (drop p text)) → TellsHead text r (headOf text)
   unfolding headOf
-  head-long h = rw (lt-ltb largest.market (length text) h)
+  head-general r p e c known = subst (TellsHead text r) (ap (sizeLine false) (c .said) ∙ rw (le-ltb largest.market (length text) few, sym told ∙ e)) known
 
-  module _ (few : length text ≤ largest.market) where
-    pub head-general : startsWith (header false) text ≡ true → afterHeader false text ≡ headOf text
+  module _ (other : t ≡ false) (u : Bool) (told-too : u ≡ startsWith (header true) text) where
+    pub head-symmetric : (r : Opening) (p : ℕ) → u ≡ true → AfterComments text (length (header true)) p → TellsHead text r (sizeLine true (drop p text)) → TellsHead text r (headOf text)
     unfolding headOf
-    head-general e = rw (le-ltb largest.market (length text) few, e)
+    head-symmetric r p e c known = subst (TellsHead text r) (ap (sizeLine true) (c .said) ∙ rw (le-ltb largest.market (length text) few, sym told ∙ other, sym told-too ∙ e)) known
 
-    module _ (other : startsWith (header false) text ≡ false) where
-      pub head-symmetric : startsWith (header true) text ≡ true → afterHeader true text ≡ headOf text
-      unfolding headOf
-      head-symmetric e = rw (le-ltb largest.market (length text) few, other, e)
-
-      pub head-neither : startsWith (header true) text ≡ false → refused refusal.unreadableMarket ≡ headOf text
-      unfolding headOf
-      head-neither e = rw (le-ltb largest.market (length text) few, other, e)
+    pub head-neither : u ≡ false → refused refusal.unreadableMarket ≡ headOf text
+    unfolding headOf
+    head-neither e = rw (le-ltb largest.market (length text) few, sym told ∙ other, sym told-too ∙ e)

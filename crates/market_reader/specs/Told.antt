@@ -1,7 +1,7 @@
 -- What the answers of inner functions say of a text. Definitions only.
 use Prim.Native.Nat.{ℕ, _+_, _*_, _/_, _≤_, _<_}
 use mathlib.Core.Path.{_≡_}
-use mathlib.Core.Bool.{Bool, cond}
+use mathlib.Core.Bool.{Bool, false, cond}
 use mathlib.Core.List.{List}
 use lib.Dec.{ltb, eqb}
 use lib.ListN.{length, getD, drop}
@@ -9,12 +9,17 @@ use lib.Ieee.{Float, nan}
 use Rattle.refusals.specs.Largest as largest
 use Rattle.real.specs.Operations as float
 use Rattle.algebra.specs.Outcome.{Outcome, value, refused}
-use Rattle.market.specs.Head.{Opened, opened}
+use Rattle.market.specs.Head.{Opened, opened, comments}
 use Rattle.market.specs.Entries.{Line, line, floatOf}
 use Rattle.market_reader.specs.declared.Opening.{Opening}
 use Rattle.market_reader.specs.declared.Opening.the-variants as opening
 use Rattle.market_reader.specs.declared.Entry.{Entry}
 use Rattle.market_reader.specs.declared.Entry.the-variants as entry
+
+-- the place r stands after the comment lines from p on
+pub record AfterComments (text : List ℕ) (p r : ℕ) : Type 0 where
+  pub said : drop r text ≡ comments false (drop p text)
+  pub inside : r ≤ length text
 
 -- a matrix is opened: what the text says, its size, and a place in the text
 pub record Opens (text : List ℕ) (n : ℕ) (symmetric : Bool) (start : ℕ) (o : Outcome Opened) : Type 0 where

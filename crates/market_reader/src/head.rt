@@ -4,17 +4,15 @@ use texts::Scan;
 use texts::read;
 use texts::whole;
 ghost use mathlib.Core.Path.{_≡_};
-ghost use mathlib.Core.Bool.{false, true, _||_};
-ghost use Prim.Native.Nat.{_≤_, _<_};
+ghost use mathlib.Core.Bool.{_||_};
+ghost use Prim.Native.Nat.{_≤_};
 ghost use lib.Dec.{eqb};
 ghost use lib.ListN.{length, drop};
 ghost use Rattle.refusals.specs.Largest as largest;
 ghost use Rattle.texts.specs.Bytes as byte;
 ghost use Rattle.texts.specs.Whole.{worth, Found};
-ghost use Rattle.texts.specs.Digits.{startsWith};
 ghost use Rattle.market.specs.Head.{columnsLine, sizeLine, headOf};
-ghost use Rattle.market.specs.Head.{comments as Head·comments};
-ghost use Rattle.market_reader.specs.Told.{TellsHead};
+ghost use Rattle.market_reader.specs.Told.{AfterComments, TellsHead};
 
 // The byte b is of a comment: inside one, or the % of one.
 fn of_comment(inside: bool, b: u8) -> bool
@@ -29,7 +27,7 @@ fn of_comment(inside: bool, b: u8) -> bool
 // The place after the comment lines from p on.
 fn comments(text: &[u8], p: usize) -> usize
     requires { ⌜ p ≤ length (now text) ⌝ }
-    ensures { λ r. ⌜ (drop r (now (text .entry)) ≡ Head·comments false (drop p (now (text .entry)))) × (r ≤ length (now (text .entry))) ⌝ }
+    ensures { λ r. ⌜ AfterComments (now (text .entry)) p r ⌝ }
 {
     let mut inside = false;
     let mut i = p;

@@ -62,10 +62,9 @@ fn fill_row(symmetric: bool, n: usize, numbers: &[f64], r: usize, width: usize, 
     requires { ⌜ PlacedUpTo width symmetric n (now numbers) (r * n) (now out) ⌝ }
     ensures { λ _. ⌜ PlacedUpTo width symmetric n (now (numbers .entry)) (r * n + n) (now (out .exit)) ⌝ }
 {
-    let first = r * n;
     let mut c = 0;
     while c < n {
-        out[(first + c) * width] = number_at(numbers, place(symmetric, n, r, c));
+        out[(r * n + c) * width] = number_at(numbers, place(symmetric, n, r, c));
         c += 1;
     }
 }

@@ -2,7 +2,7 @@
 use Prim.Native.Nat.{_+_, _-_, _*_, _≤_}
 use borrow.Author.Needs.{needs}
 use Rattle.market_reader.specs.Told.{PlacedUpTo}
-use Rattle.market_reader.proofs.Placing.{square-small, full-small, record-inside, float-inside, placed-more, row-begins, row-ends}
+use Rattle.market_reader.proofs.Placing.{row-fits, record-fits, real-fits, real-inside, placed-more, row-begins, row-ends}
 use Rattle.market_reader.proofs.places.fill_row.Statement.{statement}
 use Rattle.market_reader.proofs.places.fill_row.Tie as tie
 
@@ -16,13 +16,13 @@ pub fill-row-spec : {M : Type 1} → statement M
 fill-row-spec =
     tie.close
     (tie.spec Inv-loop μ-loop
-    (λ c. search (needs, product-small))
-    (λ c. (n, search (needs, row-begins)))
+    (λ c. search (needs, row-begins))
     (λ c κs. search needs) (λ c κs. search needs)
-    (λ c. search (needs, square-small))
-    (λ c. search (needs, full-small))
-    (λ c. search needs)
-    (λ c. search (needs, float-inside))
+    (λ c. search (needs, row-fits))
+    (λ c. search (needs, record-fits))
+    (λ c. search (needs, real-fits))
+    (λ c. search (needs, real-inside))
+    (λ c. search (needs, real-inside))
     (λ c. search needs) (λ c. search needs)
     (λ c. search (needs, placed-more))
     (λ c. search needs)
