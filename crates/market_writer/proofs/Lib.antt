@@ -1,0 +1,4 @@
+-- Laws that the proofs cite. Assumes nothing.
+mod WholeParts
+mod Pieces
+mod Answering
