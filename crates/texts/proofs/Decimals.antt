@@ -1,9 +1,9 @@
--- The digits that `io` writes are those of the definitions, and how many they are. Assumes nothing.
+-- The fewest digits, as `io` counts them, are those of the definitions, and how many they are. Assumes nothing.
 use Prim.Native.Nat.{ℕ, zero, suc, _+_, _-_, _*_, _/_, _^_, _<_, _≤_}
 use mathlib.Core.Path.{_≡_, refl, sym, ap, subst, _∙_}
 use mathlib.Core.Bool.{Bool, true, false, cond}
 use mathlib.Core.List.{List}
-use native.Mathlib.Nat.{pow-suc, pow-le-pow-right, div-lt-iff-lt-mul, le-div-iff-mul-le, lt-of-lt-of-le}
+use native.Mathlib.Nat.{pow-suc, pow-le-pow-right, div-lt-iff-lt-mul, le-div-iff-mul-le}
 use native.Mathlib.Omega.{arith}
 use lib.Dec.{ltb, lit<, lit≤}
 use lib.ListN.{length, length-append}
@@ -42,18 +42,11 @@ fewest-most b least n k m hb hl hn f = by (ltb m k) refl
         clash x y z = omega arith
     by false t = ltb-false m k t
 
-decimal-is : (n k : ℕ) → n < 2 ^ 64 → Fewest 10 1 n k → digits 10 k n ≡ decimalText n
-unfolding decimalText
-decimal-is n k h f = ap (λ (x : ℕ). digits 10 x n) (places-is 19 n k (fewest-most 10 1 n k 20 (lit< tt) (lit≤ tt) (lt-of-lt-of-le h (lit≤ tt)) f) f)
-
 hex-is : (w k : ℕ) → w < 2 ^ 64 → Fewest 16 16 w k → digits 16 k w ≡ hexText w
 unfolding hexText
 hex-is w k h f = let g : k ≤ 16 = fewest-most 16 16 w k 16 (lit< tt) (lit≤ tt) h f in ap (λ (x : ℕ). digits 16 x w) (let e : k ≡ 16 = omega (arith, f .0) in e)
 
--- ---- written: the fewest digits of a number, and the 16 of a word
-pub decimal-written : (p q : Page) (l : List ℕ) (n k : ℕ) → q ≡ written p l → l ≡ digits 10 k n → Fewest 10 1 n k → n < 2 ^ 64 → q ≡ written p (decimalText n)
-decimal-written p q l n k g e f h = g ∙ ap (written p) (e ∙ decimal-is n k h f)
-
+-- ---- written: the 16 digits of a word
 pub hex-written : (p q : Page) (l : List ℕ) (w k : ℕ) → q ≡ written p l → l ≡ digits 16 k w → Fewest 16 16 w k → w < 2 ^ 64 → q ≡ written p (hexText w)
 hex-written p q l w k g e f h = g ∙ ap (written p) (e ∙ hex-is w k h f)
 

@@ -1,8 +1,9 @@
 // Writing: each function puts a text after the first `at` bytes of a lent buffer and answers how many are then written. A full buffer takes no more.
 ghost use mathlib.Core.Path.{_≡_};
 ghost use mathlib.Core.List.{[], _∷_};
+ghost use lib.ListN.{length};
 ghost use Rattle.texts.specs.Page.{page, written};
-ghost use Rattle.texts.specs.Numbers.{decimalText, hexText};
+ghost use Rattle.texts.specs.Numbers.{decimalText, hexText, Spelled};
 
 pub fn byte(out: &mut [u8], at: usize, b: u8) -> usize
     ensures { λ r. ⌜ page (now (out .exit)) r ≡ written (page (now (out .entry)) at) (b ∷ []) ⌝ }
@@ -26,13 +27,30 @@ pub fn bytes(out: &mut [u8], at: usize, text: &[u8]) -> usize
     end
 }
 
+// The decimal digits of n at the end of the array, the last first, and where they begin. By one loop: io::decimal divides once more, to count them first.
+// A lent array does not tell a proof its length, so that is required.
+fn spell(n: u64, digits: &mut [u8; 20]) -> usize
+    requires { ⌜ length (now digits) ≡ 20 ⌝ }
+    ensures { λ r. ⌜ Spelled n (now (digits .exit)) r ⌝ }
+{
+    let mut start = 19usize;
+    let mut rest = n;
+    while 9 < rest {
+        digits[start] = b'0' + (rest % 10) as u8;
+        rest /= 10;
+        start -= 1;
+    }
+    digits[start] = b'0' + rest as u8;
+    start
+}
+
 // In decimal, with no zero in front.
 pub fn number(out: &mut [u8], at: usize, n: u64) -> usize
     ensures { λ r. ⌜ page (now (out .exit)) r ≡ written (page (now (out .entry)) at) (decimalText n) ⌝ }
 {
     let mut digits = [0u8; 20];
-    let count = io::decimal(n, &mut digits);
-    bytes(out, at, &digits[..count])
+    let start = spell(n, &mut digits);
+    bytes(out, at, &digits[start..])
 }
 
 // A word in 16 hex digits.
