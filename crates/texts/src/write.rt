@@ -2,7 +2,7 @@
 ghost use mathlib.Core.Path.{_≡_};
 ghost use mathlib.Core.List.{[], _∷_};
 ghost use lib.ListN.{length};
-ghost use Rattle.texts.specs.Page.{page, written};
+ghost use Rattle.texts.specs.Page.{page, written, Fitting};
 ghost use Rattle.texts.specs.Numbers.{decimalText, hexText, Spelled};
 
 pub fn byte(out: &mut [u8], at: usize, b: u8) -> usize
@@ -15,16 +15,30 @@ pub fn byte(out: &mut [u8], at: usize, b: u8) -> usize
     at
 }
 
+// How many of count bytes fit after the first `at` of a buffer of so many.
+fn fitting(size: usize, at: usize, count: usize) -> usize
+    ensures { λ r. ⌜ Fitting size at count r ⌝ }
+{
+    if size <= at {
+        return 0;
+    }
+    if size - at < count {
+        return size - at;
+    }
+    count
+}
+
+// One test for all of the text, and none for each byte.
 pub fn bytes(out: &mut [u8], at: usize, text: &[u8]) -> usize
     ensures { λ r. ⌜ page (now (out .exit)) r ≡ written (page (now (out .entry)) at) (now (text .entry)) ⌝ }
 {
-    let mut end = at;
+    let count = fitting(out.len(), at, text.len());
     let mut i = 0;
-    while i < text.len() {
-        end = byte(out, end, text[i]);
+    while i < count {
+        out[at + i] = text[i];
         i += 1;
     }
-    end
+    at + count
 }
 
 // The decimal digits of n at the end of the array, the last first, and where they begin. By one loop: io::decimal divides once more, to count them first.
