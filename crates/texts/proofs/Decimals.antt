@@ -1,4 +1,4 @@
--- The digits that `io` writes are those of the definitions, and how many they are. Assumes nothing.
+-- The fewest digits, as `io` counts them, are those of the definitions, and how many they are. Assumes nothing.
 use Prim.Native.Nat.{ℕ, zero, suc, _+_, _-_, _*_, _/_, _^_, _<_, _≤_}
 use mathlib.Core.Path.{_≡_, refl, sym, ap, subst, _∙_}
 use mathlib.Core.Bool.{Bool, true, false, cond}
@@ -50,10 +50,7 @@ hex-is : (w k : ℕ) → w < 2 ^ 64 → Fewest 16 16 w k → digits 16 k w ≡ h
 unfolding hexText
 hex-is w k h f = let g : k ≤ 16 = fewest-most 16 16 w k 16 (lit< tt) (lit≤ tt) h f in ap (λ (x : ℕ). digits 16 x w) (let e : k ≡ 16 = omega (arith, f .0) in e)
 
--- ---- written: the fewest digits of a number, and the 16 of a word
-pub decimal-written : (p q : Page) (l : List ℕ) (n k : ℕ) → q ≡ written p l → l ≡ digits 10 k n → Fewest 10 1 n k → n < 2 ^ 64 → q ≡ written p (decimalText n)
-decimal-written p q l n k g e f h = g ∙ ap (written p) (e ∙ decimal-is n k h f)
-
+-- ---- written: the 16 digits of a word
 pub hex-written : (p q : Page) (l : List ℕ) (w k : ℕ) → q ≡ written p l → l ≡ digits 16 k w → Fewest 16 16 w k → w < 2 ^ 64 → q ≡ written p (hexText w)
 hex-written p q l w k g e f h = g ∙ ap (written p) (e ∙ hex-is w k h f)
 

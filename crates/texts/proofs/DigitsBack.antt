@@ -18,7 +18,7 @@ use Rattle.texts.proofs.Digits.{value-under-digits, value-digit, value-
 clash : (x : ℕ) → x < 16 → 16 ≡ x → ⊥
 clash x h e = omega arith
 
-low-glyph : (d : ℕ) → d < 10 → glyph d ≡ 48 + d
+pub low-glyph : (d : ℕ) → d < 10 → glyph d ≡ 48 + d
 low-glyph d h = rw (lt-ltb d 10 h)
 
 high-glyph : (d : ℕ) → 10 ≤ d → glyph d ≡ 87 + d

@@ -7,9 +7,9 @@ use native.Mathlib.Numerals.{add-one}
 use native.Mathlib.Omega.{arith}
 use lib.Dec.{ltb}
 use lib.Seq.{sets, length-take-le, take-suc, take-all}
-use borrow.Author.Tests.{ltb-true, lt-ltb}
-use lib.ListN.{length, length-set, set, take, getD}
-use Rattle.texts.specs.Page.{Page, page, withByte, written}
+use borrow.Author.Tests.{ltb-true, ltb-false, lt-ltb, le-ltb}
+use lib.ListN.{length, length-set, set, take, drop, getD, take-append-drop, drop-of-length-le}
+use Rattle.texts.specs.Page.{Page, page, withByte, written, Fitting}
 
 pub written-append : (p : Page) (a b : List ℕ) → written (written p a) b ≡ written p (a ++ b)
 unfolding written
@@ -95,3 +95,51 @@ byte-more t i h = sym (take-suc t i 0 h) ∙ ap (λ (k : ℕ). take k t) (sym (a
 
 pub text-all : (p : Page) (t out : List ℕ) (end i : ℕ) → Pieces (λ j. take j t) (length t) p out end i → length t ≤ i → page out end ≡ written p t
 text-all p t out end i f h = pieces-all (λ j. take j t) (length t) p out end i f t h (take-all (length t) t (omega arith))
+
+-- ---- a text as far as it fits: one test for all of it
+-- a page that is full takes no more
+written-full : (l : List ℕ) (at : ℕ) (a : List ℕ) → length l ≤ at → written (page l at) a ≡ page l at
+unfolding written
+written-full l at [] h = refl
+written-full l at (x ∷ a) h = ap (λ (b : Bool). written (cond b (page (set l at x) (at + 1)) (page l at)) a) (le-ltb at (length l) h) ∙ written-full l at a h
+
+-- a byte where there is room
+byte-put : (l : List ℕ) (at b : ℕ) → at < length l → page (set l at b) (at + 1) ≡ written (page l at) (b ∷ [])
+unfolding written
+byte-put l at b h = rw (lt-ltb at (length l) h)
+
+-- what the loop keeps: of the count bytes of t that fit after the first `at` of l, i are written
+pub record Copying (l : List ℕ) (at : ℕ) (t : List ℕ) (count : ℕ) (out : List ℕ) (i : ℕ) : Type 0 where
+  pub within : i ≤ count
+  pub size : length out ≡ length l
+  pub put : page out (at + i) ≡ written (page l at) (take i t)
+
+module _ (l : List ℕ) (at : ℕ) (t : List ℕ) (count : ℕ) (fits : Fitting (length l) at (length t) count) where
+  pub copying-none : Copying l at t count l 0
+  unfolding written
+  copying-none = record { within = omega arith; size = refl; put = ap (page l) (let e : at + 0 ≡ at = omega arith in e) }
+
+  module _ (out : List ℕ) (i : ℕ) (so-far : Copying l at t count out i) where
+    pub copying-more : i < count → Copying l at t count (set out (at + i) (getD t i 0)) (i + 1)
+    copying-more h = record {
+      within = omega arith;
+      size = length-set out (at + i) (getD t i 0) ∙ so-far .size;
+      put =
+          ap (page (set out (at + i) (getD t i 0))) (let e : at + (i + 1) ≡ at + i + 1 = omega arith in e)
+          ∙ then (page l at) (take i t) (getD t i 0 ∷ []) (so-far .put) (byte-put out (at + i) (getD t i 0) (omega arith))
+          ∙ ap (written (page l at)) (byte-more t i (omega arith));
+    }
+
+    -- what fits is all, or the page is full
+    pub copying-all : count ≤ i → page out (at + count) ≡ written (page l at) t
+    unfolding written
+    copying-all h =
+        then (page l at) (take count t) (drop count t) put (sym (rest (ltb count (length t)) refl))
+        ∙ ap (written (page l at)) (take-append-drop count t)
+      where
+        put : page out (at + count) ≡ written (page l at) (take count t)
+        put = subst (λ (k : ℕ). page out (at + k) ≡ written (page l at) (take k t)) (let e : i ≡ count = omega arith in e) (so-far .put)
+
+        rest : (b : Bool) → ltb count (length t) ≡ b → written (page out (at + count)) (drop count t) ≡ page out (at + count)
+        rest true e = let full = fits .full (ltb-true count (length t) e) in written-full out (at + count) (drop count t) (omega arith)
+        rest false e = ap (written (page out (at + count))) (drop-of-length-le t (ltb-false count (length t) e))
