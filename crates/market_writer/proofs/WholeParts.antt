@@ -1,9 +1,9 @@
 -- Which floats can be written: the test of one float way by way, and of all of them part by part. Assumes nothing.
-use Prim.Native.Nat.{ℕ, _+_, _%_, _<_, _≤_}
+use Prim.Native.Nat.{ℕ, _+_, _*_, _/_, _%_, _<_, _≤_}
 use mathlib.Core.Path.{_≡_, refl, sym, ap, _∙_}
 use mathlib.Core.Bool.{Bool, true, false, cond, _&&_}
 use mathlib.Core.List.{List}
-use native.Mathlib.Nat.{mod-lt, mod-eq-of-lt}
+use native.Mathlib.Nat.{mod-eq-of-lt, mul-add-mod-self-right, div-add-mod'}
 use native.Mathlib.Omega.{arith}
 use lib.Dec.{T, leb, eqb, le→leb}
 use lib.IntN.{pos}
@@ -100,15 +100,25 @@ unfolding partFits
 fits-other part x h = rw (ne-eqb part 0 h)
 
 -- ---- the part after it
+-- part j is some part of record j / w; the next is that part with one more
+one-more : (w part j : ℕ) → part ≡ j % w → j + 1 ≡ j / w * w + (part + 1)
+one-more w part j q = let d : j / w * w + j % w ≡ j = div-add-mod' j w in omega arith
+
 pub next-record : (w part : ℕ) → part < w → part + 1 ≡ w → NextPart w part 0
-next-record w part h e = record {
-  follows = λ j q.
-      let positive : 0 < w = omega arith in ?;
-  below = omega arith;
-}
+next-record w part h e =
+    let positive : 0 < w = omega arith in record {
+      follows = λ j q.
+          let whole : j + 1 ≡ (j / w + 1) * w + 0 = (let d = one-more w part j q in let m : (j / w + 1) * w ≡ j / w * w + w = omega arith in omega arith) in
+          sym (ap (λ (x : ℕ). x % w) whole ∙ mul-add-mod-self-right (j / w + 1) w 0 ∙ mod-eq-of-lt positive);
+      below = positive;
+    }
 
 pub next-part : (w part : ℕ) → part < w → (part + 1 ≡ w → ⊥) → NextPart w part (part + 1)
-next-part w part h n = record { follows = λ j q. ?; below = omega arith }
+next-part w part h n =
+    let small : part + 1 < w = omega arith in record {
+      follows = λ j q. sym (ap (λ (x : ℕ). x % w) (one-more w part j q) ∙ mul-add-mod-self-right (j / w) w (part + 1) ∙ mod-eq-of-lt small);
+      below = small;
+    }
 
 -- ---- all of them
 -- what the loop keeps: the floats before j fit, and float j is this part of its record
