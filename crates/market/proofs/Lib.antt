@@ -15,3 +15,5 @@ pub mod RoundTrip
 pub mod DecimalsBack
 pub mod SignedLines
 pub mod WriteBack
+-- the reader and the format agree
+pub mod ReadsFormat

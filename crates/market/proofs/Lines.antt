@@ -12,12 +12,12 @@ use borrow.Author.Tests.{le-ltb, eq-eqb, ne-eqb}
 use Rattle.refusals.specs.Largest as largest
 use Rattle.algebra.specs.Outcome.{value, mapOutcome}
 use Rattle.texts.specs.Bytes as byte
-use Rattle.texts.specs.Digits.{byteAt, isDigit, digitValue, startsWith}
+use Rattle.texts.specs.Digits.{byteAt, every, isDigit, digitValue, startsWith}
 use Rattle.texts.specs.Numbers.{decimalText}
 use Rattle.texts.specs.Whole.{worth}
 use Rattle.texts.proofs.Every.{every-true}
 use Rattle.market.specs.Format.{Digits, header, sign, signed}
-use Rattle.market.specs.Head.{Opened, opened, comments, squared, columnsLine, sizeLine, afterHeader, headOf, sizeOf}
+use Rattle.market.specs.Head.{Opened, opened, comments, squared, columnsLine, sizeLine, headOf, sizeOf}
 use Rattle.market.specs.Entries.{line, magnitudeLine, entryOf}
 use Rattle.market.specs.Text.{numberLine, linesOf, sizeText, textOf}
 use Rattle.market.proofs.Decimals.{first-digit, worth-read, past-read, space-ends, newline-ends, decimal-digits, decimal-worth}
@@ -45,7 +45,7 @@ unfolding squared
 square-read s n l few = rw (eq-eqb n n refl, le-ltb largest.n n few)
 
 -- ---- the header, and no comment after it
-no-comment : (l : List ℕ) → isDigit 10 (byteAt l 0) ≡ true → comments false l ≡ l
+pub no-comment : (l : List ℕ) → isDigit 10 (byteAt l 0) ≡ true → comments false l ≡ l
 unfolding comments digitValue
 no-comment [] d = refl
 no-comment (b ∷ l) d = ap (λ (t : Bool). cond t (comments (not (eqb b byte.newline)) l) (b ∷ l)) (digit-other b byte.percent d refl)
@@ -54,9 +54,15 @@ starts-own : (word l : List ℕ) → startsWith word (word ++ l) ≡ true
 unfolding startsWith
 starts-own word l = every-true (λ i. eqb (byteAt (word ++ l) i) (byteAt word i)) (length word) (λ i h. eq-eqb (byteAt (word ++ l) i) (byteAt word i) (List·getD-append word l 0 i h))
 
-head-general : (text : List ℕ) → length text ≤ largest.market → startsWith (header false) text ≡ true → headOf text ≡ afterHeader false text
+-- a symmetric text does not begin as a general one
+starts-other : (l : List ℕ) → startsWith (header false) (header true ++ l) ≡ false
+unfolding startsWith every
+starts-other l = refl
+
+pub header-read : (s : Bool) (l : List ℕ) → length (header s ++ l) ≤ largest.market → headOf (header s ++ l) ≡ sizeLine s (comments false l)
 unfolding headOf
-head-general text h e = rw (le-ltb largest.market (length text) h, e)
+header-read false l h = rw (le-ltb largest.market (length (header false ++ l)) h, starts-own (header false) l)
+header-read true l h = rw (le-ltb largest.market (length (header true ++ l)) h, starts-other l, starts-own (header true) l)
 
 module _ (w n : ℕ) (a : List Float) (few : n ≤ largest.n) where
   abbrev pub body : List ℕ
@@ -76,8 +82,8 @@ module _ (w n : ℕ) (a : List Float) (few : n ≤ largest.n) where
   head-read =
       let l = linesOf w n a (n * n) in
       let size : worth 0 (decimalText n) ≡ n = decimal-worth n (omega arith) in
-      head-general (textOf w n a) (omega (arith, text-short w n a few)) (ap (startsWith (header false)) text-shape ∙ starts-own (header false) body)
-      ∙ ap (afterHeader false) text-shape
+      ap headOf text-shape
+      ∙ header-read false body (omega (arith, text-short w n a few, ap length text-shape))
       ∙ ap (sizeLine false) (no-comment body (first-digit (decimalText n) (decimal-digits n) (byte.space ∷ (decimalText n ++ (byte.newline ∷ l)))))
       ∙ size-read false (decimalText n) (decimalText n) l (decimal-digits n) (decimal-digits n)
       ∙ (λ i. squared false (size i) (size i) l)
