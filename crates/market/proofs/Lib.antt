@@ -17,3 +17,4 @@ pub mod SignedLines
 pub mod WriteBack
 -- the reader and the format agree
 pub mod ReadsFormat
+pub mod FormatRead
