@@ -38,26 +38,26 @@ module _ {R : Type 0} (number : ℕ) (r : R) where
   spared false x e = (refl, e)
 
 -- ---- bytes in front of a text: none of them is 0, so that they stand inside it
-first-back : (l : List ℕ) (b : ℕ) → byteAt l 0 ≡ b → 0 < b → l ≡ b ∷ drop 1 l
-first-back [] b e h = absurd (omega arith)
-first-back (c ∷ l) b e h = ap (λ (x : ℕ). x ∷ l) e
+first-split : (l : List ℕ) (b : ℕ) → byteAt l 0 ≡ b → 0 < b → l ≡ b ∷ drop 1 l
+first-split [] b e h = absurd (omega arith)
+first-split (c ∷ l) b e h = ap (λ (x : ℕ). x ∷ l) e
 
-word-back : (word text : List ℕ) → ((i : ℕ) → i < length word → byteAt text i ≡ byteAt word i) → ((i : ℕ) → i < length word → 0 < byteAt word i)
+word-split : (word text : List ℕ) → ((i : ℕ) → i < length word → byteAt text i ≡ byteAt word i) → ((i : ℕ) → i < length word → 0 < byteAt word i)
     → text ≡ word ++ drop (length word) text
-word-back [] text same some = refl
-word-back (b ∷ word) [] same some = absurd (let e = same 0 (omega arith) in let h = some 0 (omega arith) in omega arith)
-word-back (b ∷ word) (c ∷ text) same some =
-    (λ i. same 0 (omega arith) i ∷ word-back word text (λ j h. same (suc j) (omega arith)) (λ j h. some (suc j) (omega arith)) i)
+word-split [] text same some = refl
+word-split (b ∷ word) [] same some = absurd (let e = same 0 (omega arith) in let h = some 0 (omega arith) in omega arith)
+word-split (b ∷ word) (c ∷ text) same some =
+    (λ i. same 0 (omega arith) i ∷ word-split word text (λ j h. same (suc j) (omega arith)) (λ j h. some (suc j) (omega arith)) i)
 
 header-some : (s : Bool) → every (λ i. ltb 0 (byteAt (header s) i)) (length (header s)) ≡ true
 unfolding every
 header-some true = refl
 header-some false = refl
 
-header-back : (s : Bool) (text : List ℕ) → startsWith (header s) text ≡ true → text ≡ header s ++ drop (length (header s)) text
+header-split : (s : Bool) (text : List ℕ) → startsWith (header s) text ≡ true → text ≡ header s ++ drop (length (header s)) text
 unfolding startsWith
-header-back s text e =
-    word-back (header s) text
+header-split s text e =
+    word-split (header s) text
     (λ i h. eqb-true (byteAt text i) (byteAt (header s) i) (every-at (λ j. eqb (byteAt text j) (byteAt (header s) j)) (length (header s)) i e h))
     (λ i h. ltb-true 0 (byteAt (header s) i) (every-at (λ j. ltb 0 (byteAt (header s) j)) (length (header s)) i (header-some s) h))
 
@@ -110,8 +110,8 @@ module _ (l : List ℕ) (b : ℕ) (some : 0 < b) (e : (isDigit 10 (byteAt l 0) &
   number-digits : Digits (front l)
   number-digits = record { some = front-some l (both .0); all = front-digits l }
 
-  number-back : l ≡ front l ++ (b ∷ drop 1 (past l))
-  number-back = front-past l ∙ ap (λ (r : List ℕ). front l ++ r) (first-back (past l) b (eqb-true (byteAt (past l) 0) b (both .1)) some)
+  number-split : l ≡ front l ++ (b ∷ drop 1 (past l))
+  number-split = front-past l ∙ ap (λ (r : List ℕ). front l ++ r) (first-split (past l) b (eqb-true (byteAt (past l) 0) b (both .1)) some)
 
 -- ---- comment lines: what the reader passes, from outside a comment or from inside one, before it comes to r
 record Passed (inside : Bool) (l r : List ℕ) : Type 0 where
@@ -144,15 +144,15 @@ module _ (b : ℕ) (l r : List ℕ) where
   passed-none : b ∷ l ≡ r → Passed false (b ∷ l) r
   passed-none e = record { line = []; lines = []; clear = λ j h. absurd (omega arith); commented = uncommented; same = e }
 
-comments-back : (inside : Bool) (l r : List ℕ) → comments inside l ≡ r → 0 < length r → Passed inside l r
+comments-split : (inside : Bool) (l r : List ℕ) → comments inside l ≡ r → 0 < length r → Passed inside l r
 unfolding comments
-comments-back inside [] r e some = absurd (let z : 0 ≡ length r = ap length e in omega arith)
-comments-back true (b ∷ l) r e some = by (eqb b byte.newline) refl e (λ t q. comments-back t l r q some)
+comments-split inside [] r e some = absurd (let z : 0 ≡ length r = ap length e in omega arith)
+comments-split true (b ∷ l) r e some = by (eqb b byte.newline) refl e (λ t q. comments-split t l r q some)
   where
     by : (t : Bool) → eqb b byte.newline ≡ t → comments (not t) l ≡ r → ((t : Bool) → comments t l ≡ r → Passed t l r) → Passed true (b ∷ l) r
     by true q h more = passed-newline b l r (eqb-true b byte.newline q) (more false h)
     by false q h more = passed-byte b l r (eqb-false b byte.newline q) (more true h)
-comments-back false (b ∷ l) r e some = by (eqb b byte.percent) refl e (λ q. comments-back true l r q some)
+comments-split false (b ∷ l) r e some = by (eqb b byte.percent) refl e (λ q. comments-split true l r q some)
   where
     by : (t : Bool) → eqb b byte.percent ≡ t → cond t (comments (not (eqb b byte.newline)) l) (b ∷ l) ≡ r → (comments true l ≡ r → Passed true l r) → Passed false (b ∷ l) r
     by true q h more = let p : b ≡ byte.percent = eqb-true b byte.percent q in passed-percent b l r p (more (ap (λ (x : ℕ). comments (not (eqb x byte.newline)) l) (sym p) ∙ h))
@@ -170,29 +170,29 @@ record Sized (s : Bool) (l : List ℕ) (o : Opened) : Type 0 where
   few : o .n ≤ largest.n
   kind : s ≡ o .symmetric
 
-squared-back : (s : Bool) (rows columns : ℕ) (rest : List ℕ) (o : Opened) → squared s rows columns rest ≡ value o → (rows ≡ columns) × (rows ≤ largest.n) × (opened rows s rest ≡ o)
+squared-same : (s : Bool) (rows columns : ℕ) (rest : List ℕ) (o : Opened) → squared s rows columns rest ≡ value o → (rows ≡ columns) × (rows ≤ largest.n) × (opened rows s rest ≡ o)
 unfolding squared
-squared-back s rows columns rest o e =
+squared-same s rows columns rest o e =
     let a = taken refusal.notSquare o (eqb rows columns) (cond (ltb largest.n rows) (refused refusal.tooLarge) (value (opened rows s rest))) e in
     let b = spared refusal.tooLarge o (ltb largest.n rows) (value (opened rows s rest)) (a .1) in
     let q : value (opened rows s rest) ≡ value o = b .1 in
     (eqb-true rows columns (a .0), ltb-false largest.n rows (b .0), cc)
 
-size-back : (s : Bool) (l : List ℕ) (o : Opened) → sizeLine s l ≡ value o → Sized s l o
+size-split : (s : Bool) (l : List ℕ) (o : Opened) → sizeLine s l ≡ value o → Sized s l o
 unfolding sizeLine columnsLine
-size-back s l o e =
+size-split s l o e =
     let m = drop 1 (past l) in
     let r = drop 1 (past m) in
     let a = taken refusal.unreadableMarket o (isDigit 10 (byteAt l 0) && eqb (byteAt (past l) 0) byte.space) (columnsLine s (worth 0 l) m) e in
     let b = taken refusal.unreadableMarket o (isDigit 10 (byteAt m 0) && eqb (byteAt (past m) 0) byte.newline) (squared s (worth 0 l) (worth 0 m) r) (a .1) in
-    let c = squared-back s (worth 0 l) (worth 0 m) r o (b .1) in
+    let c = squared-same s (worth 0 l) (worth 0 m) r o (b .1) in
     let height : worth 0 l ≡ o .n = ap (λ (p : Opened). p .n) (c .2) in
     record {
       rows = front l;
       columns = front m;
       lines =
-          number-back l byte.space (omega arith) (a .0)
-          ∙ ap (λ (t : List ℕ). front l ++ (byte.space ∷ t)) (number-back m byte.newline (omega arith) (b .0))
+          number-split l byte.space (omega arith) (a .0)
+          ∙ ap (λ (t : List ℕ). front l ++ (byte.space ∷ t)) (number-split m byte.newline (omega arith) (b .0))
           ∙ ap (λ (p : Opened). front l ++ (byte.space ∷ (front m ++ (byte.newline ∷ p .rest)))) (c .2);
       row-digits = number-digits l byte.space (omega arith) (a .0);
       column-digits = number-digits m byte.newline (omega arith) (b .0);
@@ -211,9 +211,9 @@ record Entered (l : List ℕ) (x : Line) : Type 0 where
   small : worth 0 digits ≤ largest.whole
   number : signed minus (worth 0 digits) ≡ x .number
 
-magnitude-back : (minus : Bool) (l : List ℕ) (x : Line) → magnitudeLine minus l ≡ value x → Entered (sign minus ++ l) x
+magnitude-split : (minus : Bool) (l : List ℕ) (x : Line) → magnitudeLine minus l ≡ value x → Entered (sign minus ++ l) x
 unfolding magnitudeLine
-magnitude-back minus l x e =
+magnitude-split minus l x e =
     let good = isDigit 10 (byteAt l 0) && eqb (byteAt (past l) 0) byte.newline in
     let read : Line = line (signed minus (worth 0 l)) (drop 1 (past l)) in
     let a = spared refusal.unreadableMarket x (ltb largest.whole (worth 0 l)) (cond (isOver (past l)) (refused refusal.wrongEntries) (cond good (value read) (refused refusal.unreadableMarket))) e in
@@ -224,19 +224,19 @@ magnitude-back minus l x e =
     record {
       minus = minus;
       digits = front l;
-      lines = ap (λ (t : List ℕ). sign minus ++ t) (number-back l byte.newline (omega arith) (c .0)) ∙ ap (λ (p : Line). sign minus ++ (front l ++ (byte.newline ∷ p .rest))) same;
+      lines = ap (λ (t : List ℕ). sign minus ++ t) (number-split l byte.newline (omega arith) (c .0)) ∙ ap (λ (p : Line). sign minus ++ (front l ++ (byte.newline ∷ p .rest))) same;
       all = number-digits l byte.newline (omega arith) (c .0);
       small = subst (λ (v : ℕ). v ≤ largest.whole) (sym (front-worth l 0)) (ltb-false largest.whole (worth 0 l) (a .0));
       number = ap (signed minus) (front-worth l 0) ∙ ap (λ (p : Line). p .number) same;
     }
 
-entry-back : (l : List ℕ) (x : Line) → entryOf l ≡ value x → Entered l x
+entry-split : (l : List ℕ) (x : Line) → entryOf l ≡ value x → Entered l x
 unfolding entryOf
-entry-back l x e = by (eqb (byteAt l 0) byte.minus) refl e
+entry-split l x e = by (eqb (byteAt l 0) byte.minus) refl e
   where
     by : (t : Bool) → eqb (byteAt l 0) byte.minus ≡ t → cond t (magnitudeLine true (drop 1 l)) (magnitudeLine false l) ≡ value x → Entered l x
-    by true q h = subst (λ (m : List ℕ). Entered m x) (sym (first-back l byte.minus (eqb-true (byteAt l 0) byte.minus q) (omega arith))) (magnitude-back true (drop 1 l) x h)
-    by false q h = magnitude-back false l x h
+    by true q h = subst (λ (m : List ℕ). Entered m x) (sym (first-split l byte.minus (eqb-true (byteAt l 0) byte.minus q) (omega arith))) (magnitude-split true (drop 1 l) x h)
+    by false q h = magnitude-split false l x h
 
 -- so many numbers are read, and they are the entries' of the text
 record Listed (k : ℕ) (l : List ℕ) (numbers : List Float) : Type 0 where
@@ -257,13 +257,13 @@ listed-more k l x others entered more = record {
   count = ap suc (more .count);
 }
 
-numbers-back : (k : ℕ) (l : List ℕ) (numbers : List Float) → numbersOf k l ≡ value numbers → Listed k l numbers
+numbers-split : (k : ℕ) (l : List ℕ) (numbers : List Float) → numbersOf k l ≡ value numbers → Listed k l numbers
 unfolding numbersOf
-numbers-back zero l numbers e = listed-none l numbers e
-numbers-back (suc k) l numbers e = by (entryOf l) refl e (λ r others q. numbers-back k r others q)
+numbers-split zero l numbers e = listed-none l numbers e
+numbers-split (suc k) l numbers e = by (entryOf l) refl e (λ r others q. numbers-split k r others q)
   where
     more-by : (x : Line) (o : Outcome (List Float)) → entryOf l ≡ value x → numbersOf k (x .rest) ≡ o → mapOutcome (λ others. x .number ∷ others) o ≡ value numbers → ((others : List Float) → numbersOf k (x .rest) ≡ value others → Listed k (x .rest) others) → Listed (suc k) l numbers
-    more-by x (value others) p q h more = subst (Listed (suc k) l) (let z : x .number ∷ others ≡ numbers = cc in z) (listed-more k l x others (entry-back l x p) (more others q))
+    more-by x (value others) p q h more = subst (Listed (suc k) l) (let z : x .number ∷ others ≡ numbers = cc in z) (listed-more k l x others (entry-split l x p) (more others q))
     more-by x (refused number) p q h more = absurd (wrong number numbers h)
 
     by : (o : Outcome Line) → entryOf l ≡ o → entryThen (numbersOf k) o ≡ value numbers → ((r : List ℕ) (others : List Float) → numbersOf k r ≡ value others → Listed k r others) → Listed (suc k) l numbers
@@ -296,13 +296,13 @@ module _ (text : List ℕ) (o : Opened) where
   size-some s sized = omega (arith, ap length (sized .lines), length-append (sized .rows) (byte.space ∷ (sized .columns ++ (byte.newline ∷ o .rest))))
 
   module _ (numbers : List Float) (fits : length text ≤ largest.market) (listed : Listed (countOf (o .symmetric) (o .n)) (o .rest) numbers) where
-    market-of : (s : Bool) → startsWith (header s) text ≡ true → Sized s (sizeOn s) o → Passed false (drop (length (header s)) text) (sizeOn s) → Market false (o .symmetric) (o .n) numbers text
-    market-of s starts sized passed = record {
+    market-lines : (s : Bool) → startsWith (header s) text ≡ true → Sized s (sizeOn s) o → Passed false (drop (length (header s)) text) (sizeOn s) → Market false (o .symmetric) (o .n) numbers text
+    market-lines s starts sized passed = record {
       comments = passed .lines;
       rows = sized .rows;
       columns = sized .columns;
       entries = o .rest;
-      lines = header-back s text starts ∙ (λ i. header (sized .kind i) ++ passed .same i) ∙ ap (λ (l : List ℕ). header (o .symmetric) ++ (passed .lines ++ l)) (sized .lines);
+      lines = header-split s text starts ∙ (λ i. header (sized .kind i) ++ passed .same i) ∙ ap (λ (l : List ℕ). header (o .symmetric) ++ (passed .lines ++ l)) (sized .lines);
       commented = passed .commented;
       plain = λ e. absurd (true≢false (sym e));
       row-digits = sized .row-digits;
@@ -317,12 +317,12 @@ module _ (text : List ℕ) (o : Opened) where
       fits = fits;
     }
 
-  market-back : (numbers : List Float) → headOf text ≡ value o → numbersOf (countOf (o .symmetric) (o .n)) (o .rest) ≡ value numbers → Market false (o .symmetric) (o .n) numbers text
-  market-back numbers e f =
+  opened-market : (numbers : List Float) → headOf text ≡ value o → numbersOf (countOf (o .symmetric) (o .n)) (o .rest) ≡ value numbers → Market false (o .symmetric) (o .n) numbers text
+  opened-market numbers e f =
       let h = headed text o e in
       let s = h .1 .kind in
-      let sized = size-back s (sizeOn s) o (h .1 .after) in
-      market-of numbers (h .0) (numbers-back (countOf (o .symmetric) (o .n)) (o .rest) numbers f) s (h .1 .starts) sized (comments-back false (drop (length (header s)) text) (sizeOn s) refl (size-some s sized))
+      let sized = size-split s (sizeOn s) o (h .1 .after) in
+      market-lines numbers (h .0) (numbers-split (countOf (o .symmetric) (o .n)) (o .rest) numbers f) s (h .1 .starts) sized (comments-split false (drop (length (header s)) text) (sizeOn s) refl (size-some s sized))
 
 -- what a call of the reader that was not refused says: the text is one of the format, and what it left is the matrix of the text's numbers
 pub record Reading (w : ℕ) (text : List ℕ) (out : List Float) (n : ℕ) (left : List Float) : Type 0 where
@@ -347,7 +347,7 @@ module _ (w : ℕ) (text : List ℕ) (out : List Float) (n : ℕ) (left : List F
           room = room ∙ ap (λ (m : ℕ). m * m * w) size;
           symmetric = o .symmetric;
           numbers = numbers;
-          market = subst (λ (m : ℕ). Market false (o .symmetric) m numbers text) size (market-back text o numbers head f);
+          market = subst (λ (m : ℕ). Market false (o .symmetric) m numbers text) size (opened-market text o numbers head f);
           matrix = ap (λ (l : ReadLeft). l .out) (sym e) ∙ ap (λ (m : ℕ). matrixOf w (o .symmetric) m numbers) size;
         }
 
