@@ -16,7 +16,7 @@ use Rattle.texts.proofs.Newline.{Clear, clear-text}
 use Rattle.market.specs.Format.{Comments, Entries, Market, signed, countOf}
 use Rattle.market.specs.Format.Comments.{none as uncommented, comment}
 use Rattle.market.specs.Format.Entries.{none, entry}
-use Rattle.market.specs.Head.{Opened, opened, comments, squared, sizeLine, headOf}
+use Rattle.market.specs.Head.{Opened, opened, comments, squared, sizeLine, headOf, sizeOf}
 use Rattle.market.specs.Entries.{entryThen, numbersOf, matrixOf}
 use Rattle.market.specs.Read.{readAnswered, readNumbers, readOpened, readBody, readLeft}
 use Rattle.market.proofs.Decimals.{first-digit}
@@ -58,6 +58,11 @@ module _ (symmetric : Bool) (n : ℕ) (numbers : List Float) (text : List ℕ) (
 
   numbers-are : numbersOf (countOf symmetric n) (market .entries) ≡ value numbers
   numbers-are = ap (λ (k : ℕ). numbersOf k (market .entries)) (sym (market .count)) ∙ entries-read false (market .entries) numbers (market .listed)
+
+-- its size is told right
+pub market-size : (symmetric : Bool) (n : ℕ) (numbers : List Float) (text : List ℕ) → Market false symmetric n numbers text → sizeOf text ≡ value n
+unfolding sizeOf
+market-size symmetric n numbers text market = ap (mapOutcome (λ (o : Opened). o .n)) (head-is symmetric n numbers text market)
 
 -- a text of the format is read to its matrix
 pub market-read : (w : ℕ) (symmetric : Bool) (n : ℕ) (numbers : List Float) (text : List ℕ) → Market false symmetric n numbers text → (out : List Float) → length out ≡ n * n * w

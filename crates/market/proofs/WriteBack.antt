@@ -99,7 +99,7 @@ module _ (w n : ℕ) (numbers : List Float) (t : List ℕ) (positive : 0 < w) (m
   -- what is written of the matrix that was read is the text that it was read from
   pub text-same : textOf w n matrix ≡ t
   text-same =
-      text-shape w n matrix (market .few)
+      text-shape w n matrix
       ∙ (λ i. header false ++ (size-digits (market .rows) (market .row-digits) (market .short-rows refl) (market .height) i ++ (byte.space ∷ (size-digits (market .columns) (market .column-digits) (market .short-columns refl) (market .breadth) i ++ (byte.newline ∷ lines-back i)))))
       ∙ (λ i. header false ++ (sym (market .plain refl) i ++ (market .rows ++ (byte.space ∷ (market .columns ++ (byte.newline ∷ market .entries))))))
       ∙ sym (market .lines)
