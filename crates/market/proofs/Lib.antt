@@ -10,6 +10,9 @@ pub mod Length
 -- the reader and the format agree
 pub mod Lines
 pub mod ReadsFormat
+pub mod Fronts
+pub mod HeadTaken
+pub mod EntriesTaken
 pub mod FormatRead
 -- what is written is of the format
 pub mod Places

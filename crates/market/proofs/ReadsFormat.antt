@@ -85,10 +85,14 @@ one-reading symmetric symmetric′ n n′ numbers numbers′ text market market�
     (ap (λ (o : Opened). o .symmetric) same, ap (λ (o : Opened). o .n) same, (cc))
 
 -- ---- a tidy text is a text
+-- a text that need not be tidy owes nothing for it
+pub untidy : {P : Type 0} → false ≡ true → P
+untidy e = absurd (true≢false (sym e))
+
 tidy-entries : (text : List ℕ) (numbers : List Float) → Entries true text numbers → Entries false text numbers
 tidy-entries text numbers none = none
 tidy-entries text numbers (entry minus digits rest others all small short some more) =
-    entry minus digits rest others all small (λ e. absurd (true≢false (sym e))) (λ e. absurd (true≢false (sym e))) (tidy-entries rest others more)
+    entry minus digits rest others all small untidy untidy (tidy-entries rest others more)
 
 pub tidy-market : (symmetric : Bool) (n : ℕ) (numbers : List Float) (text : List ℕ) → Market true symmetric n numbers text → Market false symmetric n numbers text
 tidy-market symmetric n numbers text market = record {
@@ -98,11 +102,11 @@ tidy-market symmetric n numbers text market = record {
   entries = market .entries;
   lines = market .lines;
   commented = market .commented;
-  plain = λ e. absurd (true≢false (sym e));
+  plain = untidy;
   row-digits = market .row-digits;
   column-digits = market .column-digits;
-  short-rows = λ e. absurd (true≢false (sym e));
-  short-columns = λ e. absurd (true≢false (sym e));
+  short-rows = untidy;
+  short-columns = untidy;
   height = market .height;
   breadth = market .breadth;
   listed = tidy-entries (market .entries) numbers (market .listed);

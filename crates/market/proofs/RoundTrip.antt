@@ -21,6 +21,7 @@ use Rattle.market.specs.Format.{Market}
 use Rattle.market.specs.Read.{readAnswered, readLeft}
 use Rattle.market.specs.Text.{textOf, isWritable}
 use Rattle.market.specs.Write.{WriteLeft, page, writeAnswered, writeText, writeLeft}
+use Rattle.market.proofs.Fronts.{wrong}
 use Rattle.market.proofs.WholeFloats.{backOf}
 use Rattle.market.proofs.Zeros.{plusZero, back-is}
 use Rattle.market.proofs.EntryLines.{entriesOf}
@@ -59,9 +60,6 @@ module _ (w n : ℕ) (a : List Float) where
     pub size : length a ≡ n * n * w
     pub good : isWritable w a ≡ true
     pub front : take m left ≡ textOf w n a
-
-  wrong : (number m : ℕ) → _≡_ {A = Outcome ℕ} (refused number) (value m) → ⊥
-  wrong number m e = let z : _≡_ {A = ℕ} 0 1 = cc in omega arith
 
   says-by : (text left : List ℕ) (m : ℕ) (large lengths can : Bool) → ltb largest.n n ≡ large → (eqb (length a) (n * n * w) && eqb (length text) page) ≡ lengths → isWritable w a ≡ can
       → cond large (writeAnswered (refused refusal.tooLarge) text) (cond lengths (cond can (writeText (textOf w n a)) (writeAnswered (refused refusal.unwritable) text)) (writeAnswered (refused refusal.wrongLength) text)) ≡ writeAnswered (value m) left
