@@ -1,4 +1,4 @@
--- Digits that were read, written again: without a zero in front they are the decimal of what they spell. Assumes nothing.
+-- Digits that were read, written again: without a zero in front they are the decimal of what they spell, and no decimal has one. Assumes nothing.
 use Prim.Native.Nat.{ℕ, zero, suc, _+_, _-_, _*_, _/_, _%_, _^_, _<_, _≤_}
 use mathlib.Core.Path.{_≡_, refl, sym, ap, _∙_, subst}
 use mathlib.Core.Bool.{Bool, true, false, cond}

@@ -1,4 +1,4 @@
--- Lines that were written, read: the header, the size line, the line of an entry. Assumes nothing.
+-- Lines read: the header, the size line, the line of an entry; and which lines a text that is written has. Assumes nothing.
 use Prim.Native.Nat.{ℕ, _*_, _≤_}
 use mathlib.Core.Path.{_≡_, refl, sym, ap, _∙_}
 use mathlib.Core.Bool.{Bool, true, false, cond, not, true≢false}

@@ -1,4 +1,4 @@
--- The round trip: reading what was written gives the matrix, -0 becoming +0, for every matrix that can be written. Assumes nothing.
+-- The round trip: what was written is tidy, and reading it gives the matrix, -0 becoming +0, for every matrix that can be written. Assumes nothing.
 use Prim.Native.Nat.{ℕ, _+_, _-_, _*_, _%_, _<_, _≤_}
 use mathlib.Core.Path.{_≡_, refl, sym, ap, _∙_, subst}
 use mathlib.Core.Bool.{Bool, true, false, cond, _&&_}

@@ -1,4 +1,4 @@
--- A whole number that was written is read back as it is, -0 as +0. Assumes nothing.
+-- A whole number that was written is read back as it is, -0 as +0, and one below zero is no -0. Assumes nothing.
 use Prim.Native.Nat.{ℕ, zero, suc, _+_, _*_, _<_, _≤_}
 use mathlib.Core.Path.{_≡_, refl, sym, ap, _∙_}
 use mathlib.Core.Bool.{Bool, true, false, cond, not, _||_, Bool·beq, true≢false}
