@@ -1,20 +1,23 @@
--- Digits that were read, written again: without a zero in front they are the decimal of what they spell. Assumes nothing.
-use Prim.Native.Nat.{ℕ, suc, _+_, _-_, _*_, _/_, _%_, _^_, _<_, _≤_}
-use mathlib.Core.Path.{_≡_, sym, ap, _∙_, subst}
+-- Digits that were read, written again: without a zero in front they are the decimal of what they spell, and no decimal has one. Assumes nothing.
+use Prim.Native.Nat.{ℕ, zero, suc, _+_, _-_, _*_, _/_, _%_, _^_, _<_, _≤_}
+use mathlib.Core.Path.{_≡_, refl, sym, ap, _∙_, subst}
+use mathlib.Core.Bool.{Bool, true, false, cond}
 use mathlib.Core.List.{List, [], _∷_, _++_, append-nil}
-use native.Mathlib.Nat.{pow-suc, mul-assoc, mul-right-comm, mul-le-mul-right}
+use native.Mathlib.Nat.{pow-suc, mul-assoc, mul-right-comm, mul-le-mul-right, le-div-iff-mul-le}
 use native.Mathlib.Omega.{arith}
+use lib.Dec.{ltb, lit<}
 use lib.ListN.{length}
 use lib.Seq.{append-snoc}
-use borrow.Author.Tests.{ltb-true}
+use borrow.Author.Tests.{ltb-true, ltb-false}
 use Rattle.io.specs.Digits.{digits, glyph, Fewest}
+use Rattle.refusals.specs.Largest as largest
 use Rattle.texts.specs.Digits.{digitValue}
-use Rattle.texts.specs.Numbers.{decimalText}
+use Rattle.texts.specs.Numbers.{places, decimalText}
 use Rattle.texts.specs.Whole.{worth}
-use Rattle.texts.proofs.Decimals.{decimal-is}
+use Rattle.texts.proofs.Decimals.{decimal-is, length-digits}
 use Rattle.texts.proofs.DigitsBack.{glyph-value}
 use Rattle.market.specs.Format.{Digits, Short}
-use Rattle.market.proofs.Decimals.{AllDigits, digits-after}
+use Rattle.market.proofs.Decimals.{AllDigits, digits-after, decimal-digits, decimal-worth}
 
 -- the value of the first digit
 first-small : (b : ℕ) (l : List ℕ) → AllDigits (b ∷ l) → digitValue b < 10
@@ -78,3 +81,32 @@ decimal-back l d s h =
     sym (decimal-is (worth 0 l) (length l) h fewest)
     ∙ ap (λ (k : ℕ). digits 10 k (worth 0 l)) (let z : length l ≡ 0 + length l = omega arith in z)
     ∙ digits-again l 0 0 (d .all)
+
+-- ---- and a number is written without a zero in front
+short-from : (l : List ℕ) → AllDigits l → ((k : ℕ) → length l ≡ suc (suc k) → 10 ^ suc k ≤ worth 0 l) → 0 < length l → Short l
+unfolding worth digitValue
+short-from [] d least some = absurd (omega arith)
+short-from (b ∷ []) d least some = λ e. refl
+short-from (b ∷ c ∷ l) d least some =
+    λ e.
+    let m = c ∷ l in
+    let same : worth 0 (b ∷ m) ≡ worth 0 m = ap (λ (x : ℕ). worth 0 (x ∷ m)) e in
+    absurd (omega (arith, least (length l) refl, worth-most m 0 (digits-after b m d)))
+
+places-least-by : (d n k : ℕ) (t : Bool) → ltb n 10 ≡ t → ((j : ℕ) → places d (n / 10) ≡ suc (suc j) → 10 ^ suc j ≤ n / 10) → cond t 1 (suc (places d (n / 10))) ≡ suc (suc k) → 10 ^ suc k ≤ n
+places-least-by d n k true t more e = absurd (omega arith)
+places-least-by d n zero false t more e = ltb-false n 10 t
+places-least-by d n (suc j) false t more e = subst (λ (x : ℕ). x ≤ n) (sym (pow-suc 10 (suc j))) (le-div-iff-mul-le (lit< tt) .0 (more j (omega arith)))
+
+places-least : (d n k : ℕ) → places d n ≡ suc (suc k) → 10 ^ suc k ≤ n
+unfolding places
+places-least zero n k e = absurd (omega arith)
+places-least (suc d) n k e = places-least-by d n k (ltb n 10) refl (λ j q. places-least d (n / 10) j q) e
+
+pub decimal-tidy : (v : ℕ) → v ≤ largest.whole → Short (decimalText v)
+unfolding decimalText
+decimal-tidy v small =
+    let same : worth 0 (decimalText v) ≡ v = decimal-worth v small in
+    short-from (decimalText v) (decimal-digits v .all)
+    (λ k e. subst (λ (x : ℕ). 10 ^ suc k ≤ x) (sym same) (places-least 19 v k (sym (length-digits 10 (places 19 v) v) ∙ e)))
+    (decimal-digits v .some)

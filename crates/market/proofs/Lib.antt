@@ -1,17 +1,26 @@
 -- Laws of Matrix Market texts, for the proofs of their reader and their writer. Assumes nothing.
 -- a number in a text, and a float as a whole number
 pub mod Decimals
+pub mod DecimalsBack
 pub mod WholeFloats
+pub mod SignedLines
+pub mod Zeros
 -- how long a text is
 pub mod Length
--- what was written, read again
+-- the reader and the format agree
 pub mod Lines
+pub mod ReadsFormat
+pub mod Fronts
+pub mod HeadTaken
+pub mod EntriesTaken
+pub mod FormatRead
+-- what is written is of the format
 pub mod Places
-pub mod Zeros
 pub mod EntryLines
+pub mod Writable
+pub mod WritesFormat
+-- what was written, read again
 pub mod MatrixBack
 pub mod RoundTrip
 -- what was read, written again
-pub mod DecimalsBack
-pub mod SignedLines
 pub mod WriteBack

@@ -1,4 +1,4 @@
--- Lines that were written, read: the header, the size line, the line of an entry. Assumes nothing.
+-- Lines read: the header, the size line, the line of an entry; and which lines a text that is written has. Assumes nothing.
 use Prim.Native.Nat.{ℕ, _*_, _≤_}
 use mathlib.Core.Path.{_≡_, refl, sym, ap, _∙_}
 use mathlib.Core.Bool.{Bool, true, false, cond, not, true≢false}
@@ -10,18 +10,17 @@ use lib.Seq.{append-snoc}
 use lib.Ieee.{Float}
 use borrow.Author.Tests.{le-ltb, eq-eqb, ne-eqb}
 use Rattle.refusals.specs.Largest as largest
-use Rattle.algebra.specs.Outcome.{value, mapOutcome}
+use Rattle.algebra.specs.Outcome.{value}
 use Rattle.texts.specs.Bytes as byte
-use Rattle.texts.specs.Digits.{byteAt, isDigit, digitValue, startsWith}
+use Rattle.texts.specs.Digits.{byteAt, every, isDigit, digitValue, startsWith}
 use Rattle.texts.specs.Numbers.{decimalText}
 use Rattle.texts.specs.Whole.{worth}
 use Rattle.texts.proofs.Every.{every-true}
 use Rattle.market.specs.Format.{Digits, header, sign, signed}
-use Rattle.market.specs.Head.{Opened, opened, comments, squared, columnsLine, sizeLine, afterHeader, headOf, sizeOf}
+use Rattle.market.specs.Head.{opened, comments, squared, columnsLine, sizeLine, headOf}
 use Rattle.market.specs.Entries.{line, magnitudeLine, entryOf}
 use Rattle.market.specs.Text.{numberLine, linesOf, sizeText, textOf}
-use Rattle.market.proofs.Decimals.{first-digit, worth-read, past-read, space-ends, newline-ends, decimal-digits, decimal-worth}
-use Rattle.market.proofs.Length.{text-short}
+use Rattle.market.proofs.Decimals.{first-digit, worth-read, past-read, space-ends, newline-ends}
 
 -- a digit is none of the other bytes
 digit-other : (b c : ℕ) → isDigit 10 b ≡ true → isDigit 10 c ≡ false → eqb b c ≡ false
@@ -45,7 +44,7 @@ unfolding squared
 square-read s n l few = rw (eq-eqb n n refl, le-ltb largest.n n few)
 
 -- ---- the header, and no comment after it
-no-comment : (l : List ℕ) → isDigit 10 (byteAt l 0) ≡ true → comments false l ≡ l
+pub no-comment : (l : List ℕ) → isDigit 10 (byteAt l 0) ≡ true → comments false l ≡ l
 unfolding comments digitValue
 no-comment [] d = refl
 no-comment (b ∷ l) d = ap (λ (t : Bool). cond t (comments (not (eqb b byte.newline)) l) (b ∷ l)) (digit-other b byte.percent d refl)
@@ -54,12 +53,18 @@ starts-own : (word l : List ℕ) → startsWith word (word ++ l) ≡ true
 unfolding startsWith
 starts-own word l = every-true (λ i. eqb (byteAt (word ++ l) i) (byteAt word i)) (length word) (λ i h. eq-eqb (byteAt (word ++ l) i) (byteAt word i) (List·getD-append word l 0 i h))
 
-head-general : (text : List ℕ) → length text ≤ largest.market → startsWith (header false) text ≡ true → headOf text ≡ afterHeader false text
-unfolding headOf
-head-general text h e = rw (le-ltb largest.market (length text) h, e)
+-- a symmetric text does not begin as a general one
+starts-other : (l : List ℕ) → startsWith (header false) (header true ++ l) ≡ false
+unfolding startsWith every
+starts-other l = refl
 
-module _ (w n : ℕ) (a : List Float) (few : n ≤ largest.n) where
-  abbrev pub body : List ℕ
+pub header-read : (s : Bool) (l : List ℕ) → length (header s ++ l) ≤ largest.market → headOf (header s ++ l) ≡ sizeLine s (comments false l)
+unfolding headOf
+header-read false l h = rw (le-ltb largest.market (length (header false ++ l)) h, starts-own (header false) l)
+header-read true l h = rw (le-ltb largest.market (length (header true ++ l)) h, starts-other l, starts-own (header true) l)
+
+module _ (w n : ℕ) (a : List Float) where
+  abbrev body : List ℕ
   body = decimalText n ++ (byte.space ∷ (decimalText n ++ (byte.newline ∷ linesOf w n a (n * n))))
 
   pub text-shape : textOf w n a ≡ header false ++ body
@@ -70,23 +75,6 @@ module _ (w n : ℕ) (a : List Float) (few : n ≤ largest.n) where
       (append-snoc (decimalText n ++ (byte.space ∷ []) ++ decimalText n) byte.newline (linesOf w n a (n * n))
       ∙ append-assoc (decimalText n ++ (byte.space ∷ [])) (decimalText n) (byte.newline ∷ linesOf w n a (n * n))
       ∙ append-snoc (decimalText n) byte.space (decimalText n ++ (byte.newline ∷ linesOf w n a (n * n))))
-
-  -- what was written opens as an n by n matrix, and its entries are the lines
-  pub head-read : headOf (textOf w n a) ≡ value (opened n false (linesOf w n a (n * n)))
-  head-read =
-      let l = linesOf w n a (n * n) in
-      let size : worth 0 (decimalText n) ≡ n = decimal-worth n (omega arith) in
-      head-general (textOf w n a) (omega (arith, text-short w n a few)) (ap (startsWith (header false)) text-shape ∙ starts-own (header false) body)
-      ∙ ap (afterHeader false) text-shape
-      ∙ ap (sizeLine false) (no-comment body (first-digit (decimalText n) (decimal-digits n) (byte.space ∷ (decimalText n ++ (byte.newline ∷ l)))))
-      ∙ size-read false (decimalText n) (decimalText n) l (decimal-digits n) (decimal-digits n)
-      ∙ (λ i. squared false (size i) (size i) l)
-      ∙ square-read false n l few
-
-  -- its size is told right
-  pub size-back : sizeOf (textOf w n a) ≡ value n
-  unfolding sizeOf
-  size-back = ap (mapOutcome (λ (o : Opened). o .n)) head-read
 
 -- ---- the line of an entry
 module _ (digits r : List ℕ) (all : Digits digits) (small : worth 0 digits ≤ largest.whole) where
@@ -103,10 +91,3 @@ module _ (digits r : List ℕ) (all : Digits digits) (small : worth 0 digits ≤
 pub number-shape : (minus : Bool) (v : ℕ) (r : List ℕ) → numberLine minus v ++ r ≡ sign minus ++ (decimalText v ++ (byte.newline ∷ r))
 unfolding numberLine
 number-shape minus v r = append-snoc (sign minus ++ decimalText v) byte.newline r ∙ append-assoc (sign minus) (decimalText v) (byte.newline ∷ r)
-
-pub number-read : (v : ℕ) → v ≤ largest.whole → (r : List ℕ) (minus : Bool) → entryOf (numberLine minus v ++ r) ≡ value (line (signed minus v) r)
-number-read v small r minus =
-    let same = decimal-worth v small in
-    ap entryOf (number-shape minus v r)
-    ∙ entry-read (decimalText v) r (decimal-digits v) (omega arith) minus
-    ∙ ap (λ (u : ℕ). value (line (signed minus u) r)) same

@@ -9,22 +9,20 @@ use native.Mathlib.Omega.{arith}
 use lib.Dec.{eqb}
 use lib.ListN.{length, getD}
 use lib.Seq.{ext-getD}
-use lib.Ieee.{Float, eq}
+use lib.Ieee.{Float}
 use borrow.Author.Tests.{eq-eqb, ne-eqb}
 use Rattle.refusals.specs.Largest as largest
-use Rattle.refusals.specs.Number as refusal
 use Rattle.real.specs.Operations as float
-use Rattle.algebra.specs.Outcome.{value, refused}
+use Rattle.algebra.specs.Outcome.{value}
 use Rattle.algebra.proofs.Flat.{tabulate-length, tabulate-at, tabulate-map}
-use Rattle.texts.proofs.Every.{every-at}
-use Rattle.market.specs.Format.{countOf}
-use Rattle.market.specs.Entries.{numbersOf, placeOf, floatOf, matrixOf}
-use Rattle.market.specs.Read.{readAnswered, readNumbers, readOpened, readBody, readLeft}
-use Rattle.market.specs.Text.{isWhole, entryAt, linesOf, textOf, fitsAt, isWritable}
+use Rattle.market.specs.Entries.{placeOf, floatOf, matrixOf}
+use Rattle.market.specs.Read.{readAnswered, readLeft}
+use Rattle.market.specs.Text.{entryAt, textOf, isWritable}
 use Rattle.market.proofs.WholeFloats.{backOf}
-use Rattle.market.proofs.Places.{turned, turned-inside, turned-back, first-rest, first-inside, first-of}
-use Rattle.market.proofs.Lines.{head-read}
-use Rattle.market.proofs.EntryLines.{entriesOf, lines-each, each-read}
+use Rattle.market.proofs.Places.{turned, turned-inside, turned-back, first-of}
+use Rattle.market.proofs.EntryLines.{entriesOf}
+use Rattle.market.proofs.ReadsFormat.{market-read, tidy-market}
+use Rattle.market.proofs.WritesFormat.{written-market}
 
 -- ---- a matrix of entries, float by float
 module _ (w n : ℕ) (l : List Float) (j : ℕ) where
@@ -46,33 +44,6 @@ matrix-at w n l j h = tabulate-at (floatOf w false n l) (n * n * w) 0 j float.ze
 
 -- ---- a matrix that was written, read back
 module _ (w n : ℕ) (a : List Float) (positive : 0 < w) (size : length a ≡ n * n * w) (good : isWritable w a ≡ true) where
-  fits-each : (j : ℕ) → j < n * n * w → fitsAt w a j ≡ true
-  unfolding isWritable
-  fits-each j h = every-at (fitsAt w a) (length a) j good (omega arith)
-
-  pub real-whole : (j : ℕ) → j < n * n * w → j % w ≡ 0 → isWhole (getD a j float.zero) ≡ true
-  unfolding fitsAt
-  real-whole j h e = ap (λ (t : Bool). cond t (isWhole (getD a j float.zero)) (eq (getD a j float.zero) float.zero)) (sym (eq-eqb (j % w) 0 e)) ∙ fits-each j h
-
-  pub other-zero : (j : ℕ) → j < n * n * w → (j % w ≡ 0 → ⊥) → eq (getD a j float.zero) float.zero ≡ true
-  unfolding fitsAt
-  other-zero j h e = ap (λ (t : Bool). cond t (isWhole (getD a j float.zero)) (eq (getD a j float.zero) float.zero)) (sym (ne-eqb (j % w) 0 e)) ∙ fits-each j h
-
-  entry-whole : (k : ℕ) → k < n * n → isWhole (entryAt w n a k) ≡ true
-  unfolding entryAt
-  entry-whole k h = real-whole (turned n k * w) (first-inside w positive (turned n k) (n * n) (turned-inside n k h)) (first-rest w positive (turned n k))
-
-  numbers-back : numbersOf (n * n) (linesOf w n a (n * n)) ≡ value (map backOf (entriesOf w n a))
-  numbers-back =
-      let long : length (entriesOf w n a) ≡ n * n = tabulate-length (entryAt w n a) (n * n) 0 in
-      (λ i. numbersOf (sym long i) (lines-each w n a i))
-      ∙ each-read (entriesOf w n a)
-      (λ k h.
-      let g : k < n * n = omega arith in
-      ap isWhole (tabulate-at (entryAt w n a) (n * n) 0 k float.zero g)
-      ∙ ap (λ (i : ℕ). isWhole (entryAt w n a i)) (let z : 0 + k ≡ k = omega arith in z)
-      ∙ entry-whole k g)
-
   -- float number j of the matrix, read back
   abbrev pub backAt : ℕ → Float
   backAt j = cond (eqb (j % w) 0) (backOf (getD a j float.zero)) float.zero
@@ -100,12 +71,9 @@ module _ (w n : ℕ) (a : List Float) (positive : 0 < w) (size : length a ≡ n 
 
   -- reading what was written gives a matrix b if b has each real part read back, and +0 as each other part
   pub read-back : (b out : List Float) → n ≤ largest.n → length out ≡ n * n * w → length b ≡ n * n * w → ((j : ℕ) → j < n * n * w → backAt j ≡ getD b j float.zero) → readLeft w (textOf w n a) out ≡ readAnswered (value n) b
-  unfolding readLeft readBody countOf
   read-back b out few room long same =
-      ap (readOpened w out) (head-read w n a few)
-      ∙ ap (λ (t : Bool). cond t (readNumbers w out false n (numbersOf (n * n) (linesOf w n a (n * n)))) (readAnswered (refused refusal.wrongLength) out)) (eq-eqb (length out) (n * n * w) room)
-      ∙ ap (readNumbers w out false n) numbers-back
+      let numbers = map backOf (entriesOf w n a) in
+      market-read w false n numbers (textOf w n a) (tidy-market false n numbers (textOf w n a) (written-market w n a positive size good few)) out room
       ∙ ap (readAnswered (value n))
-      (let l = map backOf (entriesOf w n a) in
-      ext-getD float.zero (matrixOf w false n l) b (matrix-length w n l ∙ sym long)
-      (λ j h. let g : j < n * n * w = omega (arith, matrix-length w n l) in matrix-at w n l j g ∙ float-back j g ∙ same j g))
+      (ext-getD float.zero (matrixOf w false n numbers) b (matrix-length w n numbers ∙ sym long)
+      (λ j h. let g : j < n * n * w = omega (arith, matrix-length w n numbers) in matrix-at w n numbers j g ∙ float-back j g ∙ same j g))

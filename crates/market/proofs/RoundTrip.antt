@@ -1,8 +1,8 @@
--- The round trip: reading what was written gives the matrix, -0 becoming +0, for every matrix that can be written. Assumes nothing.
+-- The round trip: what was written is tidy, and reading it gives the matrix, -0 becoming +0, for every matrix that can be written. Assumes nothing.
 use Prim.Native.Nat.{ℕ, _+_, _-_, _*_, _%_, _<_, _≤_}
-use mathlib.Core.Path.{_≡_, refl, sym, ap, _∙_}
+use mathlib.Core.Path.{_≡_, refl, sym, ap, _∙_, subst}
 use mathlib.Core.Bool.{Bool, true, false, cond, _&&_}
-use mathlib.Core.List.{List}
+use mathlib.Core.List.{List, map}
 use native.Mathlib.Decide.{ℕ-discrete}
 use native.Mathlib.Omega.{arith}
 use lib.Dec.{T, eqb, ltb}
@@ -17,12 +17,17 @@ use Rattle.algebra.specs.Outcome.{Outcome, value, refused}
 use Rattle.algebra.specs.Flat.{tabulate}
 use Rattle.algebra.proofs.Flat.{tabulate-length, tabulate-at}
 use Rattle.texts.proofs.Every.{both-true}
+use Rattle.market.specs.Format.{Market}
 use Rattle.market.specs.Read.{readAnswered, readLeft}
 use Rattle.market.specs.Text.{textOf, isWritable}
 use Rattle.market.specs.Write.{WriteLeft, page, writeAnswered, writeText, writeLeft}
+use Rattle.market.proofs.Fronts.{wrong}
 use Rattle.market.proofs.WholeFloats.{backOf}
 use Rattle.market.proofs.Zeros.{plusZero, back-is}
-use Rattle.market.proofs.MatrixBack.{backAt, real-whole, other-zero, read-back}
+use Rattle.market.proofs.EntryLines.{entriesOf}
+use Rattle.market.proofs.WritesFormat.{written-market}
+use Rattle.market.proofs.Writable.{real-whole, other-zero}
+use Rattle.market.proofs.MatrixBack.{backAt, read-back}
 
 module _ (w n : ℕ) (a : List Float) where
   -- each float of the matrix, -0 as +0
@@ -56,9 +61,6 @@ module _ (w n : ℕ) (a : List Float) where
     pub good : isWritable w a ≡ true
     pub front : take m left ≡ textOf w n a
 
-  wrong : (number m : ℕ) → _≡_ {A = Outcome ℕ} (refused number) (value m) → ⊥
-  wrong number m e = let z : _≡_ {A = ℕ} 0 1 = cc in omega arith
-
   says-by : (text left : List ℕ) (m : ℕ) (large lengths can : Bool) → ltb largest.n n ≡ large → (eqb (length a) (n * n * w) && eqb (length text) page) ≡ lengths → isWritable w a ≡ can
       → cond large (writeAnswered (refused refusal.tooLarge) text) (cond lengths (cond can (writeText (textOf w n a)) (writeAnswered (refused refusal.unwritable) text)) (writeAnswered (refused refusal.wrongLength) text)) ≡ writeAnswered (value m) left
       → Says m left
@@ -76,10 +78,19 @@ module _ (w n : ℕ) (a : List Float) where
         (λ i. take (sym k i) (ap (λ (l : WriteLeft). l .text) (sym e) i)) ∙ take-append-seam (textOf w n a) (replicate (page - length (textOf w n a)) 0);
   }
 
-  -- Whatever the writer was lent: if it answers with a length m, the first m bytes that it leaves are read to the matrix, -0 as +0.
+  said : (text left : List ℕ) (m : ℕ) → writeLeft w n a text ≡ writeAnswered (value m) left → Says m left
+  unfolding writeLeft
+  said text left m e = says-by text left m (ltb largest.n n) (eqb (length a) (n * n * w) && eqb (length text) page) (isWritable w a) refl refl refl e
+
+  -- Whatever the writer was lent: if it answers with a length m, the first m bytes that it leaves are a tidy text of the format,
+  pub write-market : (text left : List ℕ) (m : ℕ) → 0 < w → writeLeft w n a text ≡ writeAnswered (value m) left → Market true false n (map backOf (entriesOf w n a)) (take m left)
+  write-market text left m positive e =
+      let s = said text left m e in
+      subst (Market true false n (map backOf (entriesOf w n a))) (sym (s .front)) (written-market w n a positive (s .size) (s .good) (s .few))
+
+  -- and are read to the matrix, -0 as +0.
   pub round-trip : (text left : List ℕ) (m : ℕ) (out : List Float) → 0 < w → ((j : ℕ) → j < n * n * w → T (fits binary64 (getD a j float.zero))) → writeLeft w n a text ≡ writeAnswered (value m) left → length out ≡ n * n * w
       → readLeft w (take m left) out ≡ readAnswered (value n) plain
-  unfolding writeLeft
   round-trip text left m out positive machine e room =
-      let s = says-by text left m (ltb largest.n n) (eqb (length a) (n * n * w) && eqb (length text) page) (isWritable w a) refl refl refl e in
+      let s = said text left m e in
       ap (λ (t : List ℕ). readLeft w t out) (s .front) ∙ text-back positive (s .size) (s .good) machine out (s .few) room

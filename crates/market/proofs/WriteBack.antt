@@ -12,6 +12,7 @@ use lib.Ieee.{Float, eq, ofBits}
 use borrow.Author.Tests.{le-ltb, eq-eqb, ne-eqb}
 use Rattle.refusals.specs.Largest as largest
 use Rattle.real.specs.Operations as float
+use Rattle.algebra.specs.Outcome.{value}
 use Rattle.algebra.specs.Flat.{tabulate}
 use Rattle.algebra.proofs.Flat.{tabulate-length, tabulate-at}
 use Rattle.texts.specs.Bytes as byte
@@ -21,6 +22,7 @@ use Rattle.texts.proofs.Every.{every-true}
 use Rattle.market.specs.Format.{Digits, Short, Entries, Market, header, sign, signed, countOf}
 use Rattle.market.specs.Format.Entries.{none, entry}
 use Rattle.market.specs.Entries.{matrixOf}
+use Rattle.market.specs.Read.{readAnswered, readLeft}
 use Rattle.market.specs.Text.{isWhole, entryAt, linesOf, textOf, fitsAt, isWritable}
 use Rattle.market.specs.Write.{page, writeText, writeLeft}
 use Rattle.market.proofs.Places.{turned, turned-inside, turned-back, first-rest, first-record, first-inside}
@@ -30,6 +32,8 @@ use Rattle.market.proofs.DecimalsBack.{decimal-back}
 use Rattle.market.proofs.Lines.{number-shape, text-shape}
 use Rattle.market.proofs.EntryLines.{linesEach, entriesOf, lines-each}
 use Rattle.market.proofs.MatrixBack.{float-real, float-other, matrix-length, matrix-at}
+use Rattle.market.proofs.ReadsFormat.{one-reading, tidy-market}
+use Rattle.market.proofs.FormatRead.{read-market}
 
 -- ---- the entries of a tidy text
 entries-lines : (text : List ℕ) (numbers : List Float) → Entries true text numbers → linesEach numbers ≡ text
@@ -95,7 +99,7 @@ module _ (w n : ℕ) (numbers : List Float) (t : List ℕ) (positive : 0 < w) (m
   -- what is written of the matrix that was read is the text that it was read from
   pub text-same : textOf w n matrix ≡ t
   text-same =
-      text-shape w n matrix (market .few)
+      text-shape w n matrix
       ∙ (λ i. header false ++ (size-digits (market .rows) (market .row-digits) (market .short-rows refl) (market .height) i ++ (byte.space ∷ (size-digits (market .columns) (market .column-digits) (market .short-columns refl) (market .breadth) i ++ (byte.newline ∷ lines-back i)))))
       ∙ (λ i. header false ++ (sym (market .plain refl) i ++ (market .rows ++ (byte.space ∷ (market .columns ++ (byte.newline ∷ market .entries))))))
       ∙ sym (market .lines)
@@ -105,3 +109,10 @@ module _ (w n : ℕ) (numbers : List Float) (t : List ℕ) (positive : 0 < w) (m
   unfolding writeLeft
   write-back text room =
       rw (le-ltb largest.n n (market .few), eq-eqb (length matrix) (n * n * w) (matrix-length w n numbers), eq-eqb (length text) page room, writable-back w n numbers positive (entries-whole (market .entries) numbers (market .listed))) (ap writeText text-same)
+
+  -- whatever was lent to either: a tidy text of a general matrix that is read, written again, is that text
+  pub read-then-written : (out left : List Float) (m : ℕ) (text : List ℕ) → readLeft w t out ≡ readAnswered (value m) left → length text ≡ page → writeLeft w m left text ≡ writeText t
+  read-then-written out left m text e room =
+      let reading = read-market w t out m left e in
+      let same = one-reading (reading .symmetric) false m n (reading .numbers) numbers t (reading .market) (tidy-market false n numbers t market) in
+      (λ i. writeLeft w (same .1 i) ((reading .matrix ∙ (λ j. matrixOf w (same .0 j) (same .1 j) (same .2 j))) i) text) ∙ write-back text room

@@ -1,4 +1,4 @@
--- A whole number that was written is read back as it is, -0 as +0. Assumes nothing.
+-- A whole number that was written is read back as it is, -0 as +0, and one below zero is no -0. Assumes nothing.
 use Prim.Native.Nat.{ℕ, zero, suc, _+_, _*_, _<_, _≤_}
 use mathlib.Core.Path.{_≡_, refl, sym, ap, _∙_}
 use mathlib.Core.Bool.{Bool, true, false, cond, not, _||_, Bool·beq, true≢false}
@@ -74,6 +74,14 @@ module _ (v : ℕ) (small : v ≤ largest.whole) where
   plain (fin true k g) f l e = minus-zero k g (equal-value (ofInt binary64 (pos v)) v has true k g e) l
 
   -- a number below zero
+  below-some : (k : ℕ) (g : ℤ) → k * up g * 1 ≡ v * down g → lt (fin true k g) plusNothing ≡ true → 0 < v
+  unfolding lt
+  below-some k g q l =
+      let n = nothing g in
+      let h : 0 < k * up g * down (pos 0) + 0 * up (pos 0) * down g = ltb-true 0 (k * up g * down (pos 0) + 0 * up (pos 0) * down g) l in
+      let other : v ≡ 0 → ⊥ = (λ z. let w : v * down g ≡ 0 = ap (λ (x : ℕ). x * down g) z ∙ (let y : 0 * down g ≡ 0 = omega arith in y) in omega arith) in
+      omega arith
+
   minus-by : (k : ℕ) (g : ℤ) (b : Bool) → T (fits binary64 (fin false k g)) → k * up g * 1 ≡ v * down g → lt (fin true k g) plusNothing ≡ true → eq (fin true k g) plusNothing ≡ b → signed true v ≡ cond b plusNothing (fin true k g)
   unfolding lt eq signed neg
   minus-by k g true f q l e =
@@ -81,18 +89,31 @@ module _ (v : ℕ) (small : v ≤ largest.whole) where
       let a : k * up g * down (pos 0) ≡ 0 * up (pos 0) * down g = eqb-true (k * up g * down (pos 0)) (0 * up (pos 0) * down g) (both-true (eqb (k * up g * down (pos 0)) (0 * up (pos 0) * down g)) (Bool·beq true false || eqb (k * up g * down (pos 0)) 0) e .0) in
       absurd (let h : 0 < k * up g * down (pos 0) + 0 * up (pos 0) * down g = ltb-true 0 (k * up g * down (pos 0) + 0 * up (pos 0) * down g) l in omega arith)
   minus-by k g false f q l e =
-      let n = nothing g in
-      let h : 0 < k * up g * down (pos 0) + 0 * up (pos 0) * down g = ltb-true 0 (k * up g * down (pos 0) + 0 * up (pos 0) * down g) l in
-      let other : v ≡ 0 → ⊥ = (λ z. let w : v * down g ≡ 0 = ap (λ (x : ℕ). x * down g) z ∙ (let y : 0 * down g ≡ 0 = omega arith in y) in omega arith) in
-      ap (λ (t : Bool). cond t (neg (ofInt binary64 (pos v))) (ofInt binary64 (pos v))) (lt-ltb 0 v (omega arith))
+      ap (λ (t : Bool). cond t (neg (ofInt binary64 (pos v))) (ofInt binary64 (pos v))) (lt-ltb 0 v (below-some k g q l))
       ∙ ap neg (whole-unique binary64 (ofInt binary64 (pos v)) (fin false k g) false v (ofInt-fits binary64 (pos v)) f has (refl, q))
+
+  not-above : (k : ℕ) (g : ℤ) → lt (fin false k g) plusNothing ≡ true → ⊥
+  unfolding lt
+  not-above k g l = let n = nothing g in let h : k * up g * down (pos 0) < 0 * up (pos 0) * down g = ltb-true (k * up g * down (pos 0)) (0 * up (pos 0) * down g) l in omega arith
 
   below : (x : Float) → T (fits binary64 x) → lt x plusNothing ≡ true → eq (ofInt binary64 (pos v)) (neg x) ≡ true → signed true v ≡ cond (eq x plusNothing) plusNothing x
   unfolding neg lt
   below nan f l e = absurd (true≢false (sym l))
   below (inf s) f l e = absurd (not-inf (ofInt binary64 (pos v)) v (not s) has e)
-  below (fin false k g) f l e = absurd (let n = nothing g in let h : k * up g * down (pos 0) < 0 * up (pos 0) * down g = ltb-true (k * up g * down (pos 0)) (0 * up (pos 0) * down g) l in omega arith)
+  below (fin false k g) f l e = absurd (not-above k g l)
   below (fin true k g) f l e = minus-by k g (eq (fin true k g) plusNothing) (neg-fits binary64 (fin true k g) f) (equal-value (ofInt binary64 (pos v)) v has false k g e) l refl
+
+  below-value : (x : Float) → lt x plusNothing ≡ true → eq (ofInt binary64 (pos v)) (neg x) ≡ true → 0 < v
+  unfolding neg lt
+  below-value nan l e = absurd (true≢false (sym l))
+  below-value (inf s) l e = absurd (not-inf (ofInt binary64 (pos v)) v (not s) has e)
+  below-value (fin false k g) l e = absurd (not-above k g l)
+  below-value (fin true k g) l e = below-some k g (equal-value (ofInt binary64 (pos v)) v has false k g e) l
+
+-- a whole number below zero is not -0
+pub minus-some : (x : Float) → isWhole x ≡ true → lt x float.zero ≡ true → 0 < wholePart (magnitude x)
+minus-some x e l =
+    below-value (wholePart (magnitude x)) (whole-small x e) x (ap (lt x) (sym zero-is) ∙ l) (ap (eq (ofInt binary64 (pos (wholePart (magnitude x))))) (magnitude-minus x l) ∙ whole-same x e)
 
 -- a whole number that is written is read back as it is, -0 as +0
 pub back-is : (x : Float) → T (fits binary64 x) → isWhole x ≡ true → backOf x ≡ plusZero x
