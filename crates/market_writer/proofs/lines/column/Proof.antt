@@ -2,7 +2,7 @@
 use Prim.Native.Nat.{_-_, _*_}
 use borrow.Author.Needs.{needs}
 use Rattle.texts.specs.Page.{page}
-use Rattle.texts.proofs.Page.{Pieces}
+use Rattle.texts.proofs.Page.{Pieces, pieces-length}
 use Rattle.market_writer.specs.Told.{linesFrom}
 use Rattle.market_writer.proofs.Pieces.{row-fits, record-fits, real-fits, real-inside, column-none, column-more, column-all}
 use Rattle.market_writer.proofs.lines.column.Statement.{statement}
@@ -26,5 +26,5 @@ column-spec =
     (λ c. search (needs, real-inside))
     (λ c κs. search needs) (λ c. search needs) (λ c. search needs)
     (λ c. search (needs, column-more))
-    (λ c. search needs)
+    (λ c. search (needs, pieces-length))
     (λ c. search (needs, column-all)))

@@ -2,7 +2,7 @@
 use Prim.Native.Nat.{_-_}
 use borrow.Author.Needs.{needs}
 use Rattle.texts.specs.Page.{page}
-use Rattle.texts.proofs.Page.{Pieces}
+use Rattle.texts.proofs.Page.{Pieces, pieces-length}
 use Rattle.market_writer.proofs.Pieces.{columnsOf, columns-none, columns-more, columns-all}
 use Rattle.market_writer.proofs.lines.columns.Statement.{statement}
 use Rattle.market_writer.proofs.lines.columns.Tie as tie
@@ -20,5 +20,5 @@ columns-spec =
     (λ c. search (needs, columns-none))
     (λ c κs. search needs) (λ c. search needs) (λ c. search needs)
     (λ c. search (needs, columns-more))
-    (λ c. search needs)
+    (λ c. search (needs, pieces-length))
     (λ c. search (needs, columns-all)))
