@@ -25,7 +25,12 @@ use Rattle.jacobi.specs.Entry.{JacobiLeft, jacobiAnswered}
 use Rattle.jacobi.specs.Answer.{outcome}
 use Rattle.jacobi.specs.declared.JacobiAnswer.{JacobiAnswer}
 use Rattle.jacobi.specs.declared.JacobiAnswer.the-variants as jacobi
-use Rattle.exports.specs.Numbered.{swapsOrColumn, luNumbered, solveNumbered, determinantNumbered, hyperDualDeterminantNumbered, jacobiNumbered}
+use Rattle.market.specs.Answers.{marketOutcome}
+use Rattle.market.specs.Read.{ReadLeft, readAnswered}
+use Rattle.market.specs.Write.{WriteLeft, writeAnswered}
+use Rattle.market.specs.declared.MarketAnswer.{MarketAnswer}
+use Rattle.market.specs.declared.MarketAnswer.the-variants as market
+use Rattle.exports.specs.Numbered.{countOf, swapsOrColumn, luNumbered, solveNumbered, determinantNumbered, hyperDualDeterminantNumbered, jacobiNumbered, sizeNumbered, readNumbered, writeNumbered}
 
 -- the answer is k, and the entry left l: what crosses is l's
 pub crossed : {A L T : Type 0} (reading : A → L) (cross : L → T) (answer k : A) (l : L) → reading answer ≡ l → answer ≡ k → cross (reading k) ≡ cross l
@@ -81,3 +86,21 @@ module _ (re eps1 eps2 eps1eps2 : Float) (answer : HyperDualAnswer) (l : Outcome
 
   pub hyper-determinant-refused : (number : ℕ) → answer ≡ hyper.Refused number → (number, (re, (eps1, (eps2, eps1eps2)))) ≡ hyperDualDeterminantNumbered re eps1 eps2 eps1eps2 l
   hyper-determinant-refused number told = crossed hyperdual.outcome (hyperDualDeterminantNumbered re eps1 eps2 eps1eps2) answer (hyper.Refused number) l promise told
+
+-- Matrix Market: the number and the count of an answer, by its case
+pub market-refused : (before number k : ℕ) (answer : MarketAnswer) → answer ≡ market.Refused k → number ≡ numberOf (marketOutcome answer) → (number ≡ numberOf (marketOutcome answer)) × (before ≡ countOf before (marketOutcome answer))
+market-refused before number k answer told read = (read, ap (λ (r : MarketAnswer). countOf before (marketOutcome r)) (sym told))
+
+pub market-done : (before count : ℕ) (answer : MarketAnswer) → answer ≡ market.Done count → (0 ≡ numberOf (marketOutcome answer)) × (count ≡ countOf before (marketOutcome answer))
+market-done before count answer told = (ap (λ (r : MarketAnswer). numberOf (marketOutcome r)) (sym told), ap (λ (r : MarketAnswer). countOf before (marketOutcome r)) (sym told))
+
+-- and what the call left beside them
+module _ (before number after : ℕ) (answer : MarketAnswer) (told : number ≡ numberOf (marketOutcome answer)) (written : after ≡ countOf before (marketOutcome answer)) where
+  pub size-crossed : (o : Outcome ℕ) → marketOutcome answer ≡ o → (number, after) ≡ sizeNumbered before o
+  size-crossed o promise = (λ i. (told i, written i)) ∙ ap (sizeNumbered before) promise
+
+  pub read-crossed : (out : List Float) (l : ReadLeft) → readAnswered (marketOutcome answer) out ≡ l → (number, (after, out)) ≡ readNumbered before l
+  read-crossed out l promise = (λ i. (told i, (written i, out))) ∙ ap (readNumbered before) promise
+
+  pub write-crossed : (text : List ℕ) (l : WriteLeft) → writeAnswered (marketOutcome answer) text ≡ l → (number, (after, text)) ≡ writeNumbered before l
+  write-crossed text l promise = (λ i. (told i, (written i, text))) ∙ ap (writeNumbered before) promise

@@ -26,6 +26,11 @@ use Rattle.exports.proofs.hyperdual_linalg.evindrast_hyperdual_lu as hy
 use Rattle.exports.proofs.hyperdual_linalg.evindrast_hyperdual_solve as hyper-solve
 use Rattle.exports.proofs.hyperdual_linalg.evindrast_hyperdual_determinant as hyper-determinant
 use Rattle.exports.proofs.hyperdual_linalg.evindrast_hyperdual_inverse as hyper-inverse
+use Rattle.exports.proofs.market.evindrast_market_size as market-size
+use Rattle.exports.proofs.market.evindrast_market_read as market-read
+use Rattle.exports.proofs.market.evindrast_market_write as market-write
+use Rattle.exports.proofs.market.evindrast_hyperdual_market_read as hyper-market-read
+use Rattle.exports.proofs.market.evindrast_hyperdual_market_write as hyper-market-write
 
 -- the parts of what crosses
 first : {A B : Type 0} {x y : A × B} → x ≡ y → x .0 ≡ y .0
@@ -121,3 +126,25 @@ sum-only = join-only-by sum.Reads.Pre _
 
 pub product-only : Only 2 product.Kinds.ps product.Kinds.r product.Reads.Pre product.Reads.Post
 product-only = join-only-by product.Reads.Pre _
+
+-- Matrix Market: reading and writing over any record
+read-only-by : (pre : In 3 market-read.Kinds.ps) (left : (κs : Lfts 3) → Dens κs market-read.Kinds.ps → ℕ × (ℕ × List Float)) → Only 3 market-read.Kinds.ps market-read.Kinds.r pre (λ κs a x s. (x, (now (s .1 .1 .0), now (s .1 .0))) ≡ left κs a)
+read-only-by pre left κs a x y v w h p q = let e = p ∙ sym q in (first e, λ i. atExit (endedOf 3 market-read.Kinds.ps market-read.Kinds.r) κs a (v .0, (rest (rest e) i, (first (rest e) i, tt))))
+
+write-only-by : (pre : In 3 market-write.Kinds.ps) (left : (κs : Lfts 3) → Dens κs market-write.Kinds.ps → ℕ × (ℕ × List ℕ)) → Only 3 market-write.Kinds.ps market-write.Kinds.r pre (λ κs a x s. (x, (now (s .1 .1 .1 .0), now (s .1 .1 .0))) ≡ left κs a)
+write-only-by pre left κs a x y v w h p q = let e = p ∙ sym q in (first e, λ i. atExit (endedOf 3 market-write.Kinds.ps market-write.Kinds.r) κs a (v .0, (v .1 .0, (rest (rest e) i, (first (rest e) i, tt)))))
+
+pub market-size-only : Only 2 market-size.Kinds.ps market-size.Kinds.r market-size.Reads.Pre market-size.Reads.Post
+market-size-only κs a x y v w h p q = let e = p ∙ sym q in (first e, λ i. atExit (endedOf 2 market-size.Kinds.ps market-size.Kinds.r) κs a (v .0, (rest e i, tt)))
+
+pub market-read-only : Only 3 market-read.Kinds.ps market-read.Kinds.r market-read.Reads.Pre market-read.Reads.Post
+market-read-only = read-only-by market-read.Reads.Pre _
+
+pub market-write-only : Only 3 market-write.Kinds.ps market-write.Kinds.r market-write.Reads.Pre market-write.Reads.Post
+market-write-only = write-only-by market-write.Reads.Pre _
+
+pub hyper-market-read-only : Only 3 hyper-market-read.Kinds.ps hyper-market-read.Kinds.r hyper-market-read.Reads.Pre hyper-market-read.Reads.Post
+hyper-market-read-only = read-only-by hyper-market-read.Reads.Pre _
+
+pub hyper-market-write-only : Only 3 hyper-market-write.Kinds.ps hyper-market-write.Kinds.r hyper-market-write.Reads.Pre hyper-market-write.Reads.Post
+hyper-market-write-only = write-only-by hyper-market-write.Reads.Pre _

@@ -1,4 +1,4 @@
--- What a call leaves, as it crosses to C: document 01's number first, then what the lent places and buffers hold. Definitions only.
+-- What a call leaves, as it crosses to C: the documents' number first, then what the lent places and buffers hold. Definitions only.
 use Prim.Native.Nat.{ℕ}
 use mathlib.Core.Bool.{cond}
 use mathlib.Core.List.{List}
@@ -10,6 +10,8 @@ use Rattle.dual.specs.declared.Dual.{Dual}
 use Rattle.hyperdual.specs.declared.HyperDual.{HyperDual}
 use Rattle.matrices.specs.Entries.{LuLeft, SolveLeft}
 use Rattle.jacobi.specs.Entry.{JacobiLeft}
+use Rattle.market.specs.Read.{ReadLeft}
+use Rattle.market.specs.Write.{WriteLeft}
 
 -- a count: written where the call is done, else as it was
 abbrev pub countOf : ℕ → Outcome ℕ → ℕ
@@ -41,3 +43,13 @@ hyperDualDeterminantNumbered re eps1 eps2 eps1eps2 (refused number) = (number, (
 -- Jacobi: the number, the sweeps, the values, the vectors
 abbrev pub jacobiNumbered : ℕ → JacobiLeft → ℕ × (ℕ × (List Float × List Float))
 jacobiNumbered before l = (numberOf (l .answer), (countOf before (l .answer), (l .values, l .vectors)))
+
+-- Matrix Market: the number, the size or the length, what was lent
+abbrev pub sizeNumbered : ℕ → Outcome ℕ → ℕ × ℕ
+sizeNumbered before o = (numberOf o, countOf before o)
+
+abbrev pub readNumbered : ℕ → ReadLeft → ℕ × (ℕ × List Float)
+readNumbered before l = (numberOf (l .answer), (countOf before (l .answer), l .out))
+
+abbrev pub writeNumbered : ℕ → WriteLeft → ℕ × (ℕ × List ℕ)
+writeNumbered before l = (numberOf (l .answer), (countOf before (l .answer), l .text))
