@@ -87,20 +87,18 @@ module _ (re eps1 eps2 eps1eps2 : Float) (answer : HyperDualAnswer) (l : Outcome
   pub hyper-determinant-refused : (number : ℕ) → answer ≡ hyper.Refused number → (number, (re, (eps1, (eps2, eps1eps2)))) ≡ hyperDualDeterminantNumbered re eps1 eps2 eps1eps2 l
   hyper-determinant-refused number told = crossed hyperdual.outcome (hyperDualDeterminantNumbered re eps1 eps2 eps1eps2) answer (hyper.Refused number) l promise told
 
--- Matrix Market: the number and the count of an answer, by its case
+-- Matrix Market refused: the number is the answer's, the count stays as it was
 pub market-refused : (before number k : ℕ) (answer : MarketAnswer) → answer ≡ market.Refused k → number ≡ numberOf (marketOutcome answer) → (number ≡ numberOf (marketOutcome answer)) × (before ≡ countOf before (marketOutcome answer))
 market-refused before number k answer told read = (read, ap (λ (r : MarketAnswer). countOf before (marketOutcome r)) (sym told))
 
-pub market-done : (before count : ℕ) (answer : MarketAnswer) → answer ≡ market.Done count → (0 ≡ numberOf (marketOutcome answer)) × (count ≡ countOf before (marketOutcome answer))
-market-done before count answer told = (ap (λ (r : MarketAnswer). numberOf (marketOutcome r)) (sym told), ap (λ (r : MarketAnswer). countOf before (marketOutcome r)) (sym told))
-
 -- and what the call left beside them
-module _ (before number after : ℕ) (answer : MarketAnswer) (told : number ≡ numberOf (marketOutcome answer)) (written : after ≡ countOf before (marketOutcome answer)) where
-  pub size-crossed : (o : Outcome ℕ) → marketOutcome answer ≡ o → (number, after) ≡ sizeNumbered before o
-  size-crossed o promise = (λ i. (told i, written i)) ∙ ap (sizeNumbered before) promise
+pub size-crossed : (before number after : ℕ) (answer : MarketAnswer) (o : Outcome ℕ) → number ≡ numberOf (marketOutcome answer) → after ≡ countOf before (marketOutcome answer) → marketOutcome answer ≡ o → (number, after) ≡ sizeNumbered before o
+size-crossed before number after answer o told written promise = (λ i. (told i, written i)) ∙ ap (sizeNumbered before) promise
 
-  pub read-crossed : (out : List Float) (l : ReadLeft) → readAnswered (marketOutcome answer) out ≡ l → (number, (after, out)) ≡ readNumbered before l
-  read-crossed out l promise = (λ i. (told i, (written i, out))) ∙ ap (readNumbered before) promise
+pub read-crossed : (before number after : ℕ) (out : List Float) (answer : MarketAnswer) (l : ReadLeft) → number ≡ numberOf (marketOutcome answer) → after ≡ countOf before (marketOutcome answer) → readAnswered (marketOutcome answer) out ≡ l
+    → (number, (after, out)) ≡ readNumbered before l
+read-crossed before number after out answer l told written promise = (λ i. (told i, (written i, out))) ∙ ap (readNumbered before) promise
 
-  pub write-crossed : (text : List ℕ) (l : WriteLeft) → writeAnswered (marketOutcome answer) text ≡ l → (number, (after, text)) ≡ writeNumbered before l
-  write-crossed text l promise = (λ i. (told i, (written i, text))) ∙ ap (writeNumbered before) promise
+pub write-crossed : (before number after : ℕ) (text : List ℕ) (answer : MarketAnswer) (l : WriteLeft) → number ≡ numberOf (marketOutcome answer) → after ≡ countOf before (marketOutcome answer) → writeAnswered (marketOutcome answer) text ≡ l
+    → (number, (after, text)) ≡ writeNumbered before l
+write-crossed before number after text answer l told written promise = (λ i. (told i, (written i, text))) ∙ ap (writeNumbered before) promise

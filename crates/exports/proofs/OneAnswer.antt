@@ -26,11 +26,11 @@ use Rattle.exports.proofs.hyperdual_linalg.evindrast_hyperdual_lu as hy
 use Rattle.exports.proofs.hyperdual_linalg.evindrast_hyperdual_solve as hyper-solve
 use Rattle.exports.proofs.hyperdual_linalg.evindrast_hyperdual_determinant as hyper-determinant
 use Rattle.exports.proofs.hyperdual_linalg.evindrast_hyperdual_inverse as hyper-inverse
-use Rattle.exports.proofs.market.evindrast_market_size as market-size
-use Rattle.exports.proofs.market.evindrast_market_read as market-read
-use Rattle.exports.proofs.market.evindrast_market_write as market-write
-use Rattle.exports.proofs.market.evindrast_hyperdual_market_read as hyper-market-read
-use Rattle.exports.proofs.market.evindrast_hyperdual_market_write as hyper-market-write
+use Rattle.exports.proofs.matrix_market.evindrast_market_size as market-size
+use Rattle.exports.proofs.matrix_market.evindrast_market_read as market-read
+use Rattle.exports.proofs.matrix_market.evindrast_market_write as market-write
+use Rattle.exports.proofs.matrix_market.evindrast_hyperdual_market_read as hyper-market-read
+use Rattle.exports.proofs.matrix_market.evindrast_hyperdual_market_write as hyper-market-write
 
 -- the parts of what crosses
 first : {A B : Type 0} {x y : A × B} → x ≡ y → x .0 ≡ y .0

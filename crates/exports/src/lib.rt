@@ -2,7 +2,7 @@
 // buffer overlaps no other. An answer leaves as the documents' number, 0 where the call is done; a call that is refused writes nothing, but for 6 (see `evindrast_lu`).
 pub mod hyperdual_linalg;
 pub mod linalg;
-pub mod market;
+pub mod matrix_market;
 pub mod operators;
 pub mod record;
 pub mod root;

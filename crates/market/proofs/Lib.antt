@@ -24,3 +24,5 @@ pub mod MatrixBack
 pub mod RoundTrip
 -- what was read, written again
 pub mod WriteBack
+-- one answer
+pub mod OneAnswer

@@ -3,3 +3,4 @@ mod HeadLines
 mod EntryLines
 mod Placing
 mod Answering
+pub mod OneAnswer

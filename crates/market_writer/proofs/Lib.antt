@@ -2,3 +2,4 @@
 mod WholeParts
 mod Pieces
 mod Answering
+pub mod OneAnswer

@@ -1,8 +1,8 @@
 -- By the case of the answer: the count is written where the call is done.
 use borrow.Author.Needs.{needs}
-use Rattle.exports.proofs.Crossed.{market-refused, market-done}
-use Rattle.exports.proofs.market.market_number.Statement.{statement}
-use Rattle.exports.proofs.market.market_number.Tie as tie
+use Rattle.exports.proofs.Crossed.{market-refused}
+use Rattle.exports.proofs.matrix_market.market_number.Statement.{statement}
+use Rattle.exports.proofs.matrix_market.market_number.Tie as tie
 
 pub market-number-spec : {M : Type 1} → statement M
 market-number-spec =
@@ -10,4 +10,4 @@ market-number-spec =
     (tie.spec
     (λ c. search needs) (λ c. search needs) (λ c κs. search needs)
     (λ c. search (needs, market-refused))
-    (λ c. search (needs, market-done)))
+    (λ c. search needs))
