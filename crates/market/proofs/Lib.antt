@@ -14,8 +14,12 @@ pub mod Fronts
 pub mod HeadTaken
 pub mod EntriesTaken
 pub mod FormatRead
--- what is written is of the format
+-- where the entries stand, and the matrix of them
 pub mod Places
+pub mod ColumnByColumn
+pub mod MatrixAt
+pub mod HoldsNumbers
+-- what is written is of the format
 pub mod EntryLines
 pub mod Writable
 pub mod WritesFormat

@@ -14,35 +14,17 @@ use borrow.Author.Tests.{eq-eqb, ne-eqb}
 use Rattle.refusals.specs.Largest as largest
 use Rattle.real.specs.Operations as float
 use Rattle.algebra.specs.Outcome.{value}
-use Rattle.algebra.proofs.Flat.{tabulate-length, tabulate-at, tabulate-map}
-use Rattle.market.specs.Entries.{placeOf, floatOf, matrixOf}
+use Rattle.algebra.proofs.Flat.{tabulate-at, tabulate-map}
+use Rattle.market.specs.Entries.{floatOf, matrixOf}
 use Rattle.market.specs.Read.{readAnswered, readLeft}
 use Rattle.market.specs.Text.{entryAt, textOf, isWritable}
 use Rattle.market.proofs.WholeFloats.{backOf}
 use Rattle.market.proofs.Places.{turned, turned-inside, turned-back, first-of}
+use Rattle.market.proofs.MatrixAt.{matrix-length, matrix-at, float-general, float-other}
 use Rattle.market.proofs.EntryLines.{entriesOf}
 use Rattle.market.proofs.ReadsFormat.{market-read, tidy-market}
 use Rattle.market.proofs.WritesFormat.{written-market}
 
--- ---- a matrix of entries, float by float
-module _ (w n : ℕ) (l : List Float) (j : ℕ) where
-  pub float-real : j % w ≡ 0 → floatOf w false n l j ≡ getD l (turned n (j / w)) float.zero
-  unfolding floatOf placeOf
-  float-real e = rw (eq-eqb (j % w) 0 e)
-
-  pub float-other : (j % w ≡ 0 → ⊥) → floatOf w false n l j ≡ float.zero
-  unfolding floatOf
-  float-other e = rw (ne-eqb (j % w) 0 e)
-
-pub matrix-length : (w n : ℕ) (l : List Float) → length (matrixOf w false n l) ≡ n * n * w
-unfolding matrixOf
-matrix-length w n l = tabulate-length (floatOf w false n l) (n * n * w) 0
-
-pub matrix-at : (w n : ℕ) (l : List Float) (j : ℕ) → j < n * n * w → getD (matrixOf w false n l) j float.zero ≡ floatOf w false n l j
-unfolding matrixOf
-matrix-at w n l j h = tabulate-at (floatOf w false n l) (n * n * w) 0 j float.zero h ∙ ap (floatOf w false n l) (let z : 0 + j ≡ j = omega arith in z)
-
--- ---- a matrix that was written, read back
 module _ (w n : ℕ) (a : List Float) (positive : 0 < w) (size : length a ≡ n * n * w) (good : isWritable w a ≡ true) where
   -- float number j of the matrix, read back
   abbrev pub backAt : ℕ → Float
@@ -66,8 +48,8 @@ module _ (w n : ℕ) (a : List Float) (positive : 0 < w) (size : length a ≡ n 
     float-back = by (ℕ-discrete (j % w) 0)
       where
         by : Dec (j % w ≡ 0) → floatOf w false n (map backOf (entriesOf w n a)) j ≡ cond (eqb (j % w) 0) (backOf (getD a j float.zero)) float.zero
-        by (yes e) = float-real w n (map backOf (entriesOf w n a)) j e ∙ real-back e ∙ ap (λ (t : Bool). cond t (backOf (getD a j float.zero)) float.zero) (sym (eq-eqb (j % w) 0 e))
-        by (no e) = float-other w n (map backOf (entriesOf w n a)) j e ∙ ap (λ (t : Bool). cond t (backOf (getD a j float.zero)) float.zero) (sym (ne-eqb (j % w) 0 e))
+        by (yes e) = float-general w n (map backOf (entriesOf w n a)) j e ∙ real-back e ∙ ap (λ (t : Bool). cond t (backOf (getD a j float.zero)) float.zero) (sym (eq-eqb (j % w) 0 e))
+        by (no e) = float-other w false n (map backOf (entriesOf w n a)) j e ∙ ap (λ (t : Bool). cond t (backOf (getD a j float.zero)) float.zero) (sym (ne-eqb (j % w) 0 e))
 
   -- reading what was written gives a matrix b if b has each real part read back, and +0 as each other part
   pub read-back : (b out : List Float) → n ≤ largest.n → length out ≡ n * n * w → length b ≡ n * n * w → ((j : ℕ) → j < n * n * w → backAt j ≡ getD b j float.zero) → readLeft w (textOf w n a) out ≡ readAnswered (value n) b
@@ -75,5 +57,5 @@ module _ (w n : ℕ) (a : List Float) (positive : 0 < w) (size : length a ≡ n 
       let numbers = map backOf (entriesOf w n a) in
       market-read w false n numbers (textOf w n a) (tidy-market false n numbers (textOf w n a) (written-market w n a positive size good few)) out room
       ∙ ap (readAnswered (value n))
-      (ext-getD float.zero (matrixOf w false n numbers) b (matrix-length w n numbers ∙ sym long)
-      (λ j h. let g : j < n * n * w = omega (arith, matrix-length w n numbers) in matrix-at w n numbers j g ∙ float-back j g ∙ same j g))
+      (ext-getD float.zero (matrixOf w false n numbers) b (matrix-length w false n numbers ∙ sym long)
+      (λ j h. let g : j < n * n * w = omega (arith, matrix-length w false n numbers) in matrix-at w false n numbers j g ∙ float-back j g ∙ same j g))

@@ -13,7 +13,7 @@ use borrow.Author.Tests.{ltb-false, eqb-true, eq-eqb, ne-eqb}
 use Rattle.refusals.specs.Largest as largest
 use Rattle.refusals.specs.Number as refusal
 use Rattle.real.specs.Operations as float
-use Rattle.algebra.specs.Outcome.{Outcome, value, refused}
+use Rattle.algebra.specs.Outcome.{Outcome, value, refused, numberOf}
 use Rattle.algebra.specs.Flat.{tabulate}
 use Rattle.algebra.proofs.Flat.{tabulate-length, tabulate-at}
 use Rattle.texts.proofs.Every.{both-true}
@@ -81,6 +81,20 @@ module _ (w n : ℕ) (a : List Float) where
   said : (text left : List ℕ) (m : ℕ) → writeLeft w n a text ≡ writeAnswered (value m) left → Says m left
   unfolding writeLeft
   said text left m e = says-by text left m (ltb largest.n n) (eqb (length a) (n * n * w) && eqb (length text) page) (isWritable w a) refl refl refl e
+
+  -- an answer that has the number 0 tells a length
+  told-by : (text : List ℕ) (large lengths can : Bool)
+      → let left = cond large (writeAnswered (refused refusal.tooLarge) text) (cond lengths (cond can (writeText (textOf w n a)) (writeAnswered (refused refusal.unwritable) text)) (writeAnswered (refused refusal.wrongLength) text)) in
+      numberOf (left .answer) ≡ 0 → (m : ℕ) × (left ≡ writeAnswered (value m) (left .text))
+  unfolding writeText
+  told-by text true lengths can e = absurd (omega arith)
+  told-by text false false can e = absurd (omega arith)
+  told-by text false true false e = absurd (omega arith)
+  told-by text false true true e = (length (textOf w n a), refl)
+
+  pub told-length : (text : List ℕ) → numberOf (writeLeft w n a text .answer) ≡ 0 → (m : ℕ) × (writeLeft w n a text ≡ writeAnswered (value m) (writeLeft w n a text .text))
+  unfolding writeLeft
+  told-length text e = told-by text (ltb largest.n n) (eqb (length a) (n * n * w) && eqb (length text) page) (isWritable w a) e
 
   -- Whatever the writer was lent: if it answers with a length m, the first m bytes that it leaves are a tidy text of the format,
   pub write-market : (text left : List ℕ) (m : ℕ) → 0 < w → writeLeft w n a text ≡ writeAnswered (value m) left → Market true false n (map backOf (entriesOf w n a)) (take m left)

@@ -31,7 +31,7 @@ use Rattle.market.proofs.SignedLines.{signed-whole, signed-line}
 use Rattle.market.proofs.DecimalsBack.{decimal-back}
 use Rattle.market.proofs.Lines.{number-shape, text-shape}
 use Rattle.market.proofs.EntryLines.{linesEach, entriesOf, lines-each}
-use Rattle.market.proofs.MatrixBack.{float-real, float-other, matrix-length, matrix-at}
+use Rattle.market.proofs.MatrixAt.{float-general, float-other, matrix-length, matrix-at}
 use Rattle.market.proofs.ReadsFormat.{one-reading, tidy-market}
 use Rattle.market.proofs.FormatRead.{read-market}
 
@@ -57,8 +57,8 @@ module _ (w n : ℕ) (numbers : List Float) (positive : 0 < w) where
   entry-back : (k : ℕ) → k < n * n → entryAt w n (matrixOf w false n numbers) k ≡ getD numbers k float.zero
   unfolding entryAt
   entry-back k h =
-      matrix-at w n numbers (turned n k * w) (first-inside w positive (turned n k) (n * n) (turned-inside n k h))
-      ∙ float-real w n numbers (turned n k * w) (first-rest w positive (turned n k))
+      matrix-at w false n numbers (turned n k * w) (first-inside w positive (turned n k) (n * n) (turned-inside n k h))
+      ∙ float-general w n numbers (turned n k * w) (first-rest w positive (turned n k))
       ∙ ap (λ (i : ℕ). getD numbers (turned n i) float.zero) (first-record w positive (turned n k))
       ∙ ap (λ (i : ℕ). getD numbers i float.zero) (turned-back n k h)
 
@@ -77,12 +77,12 @@ module _ (w n : ℕ) (numbers : List Float) (positive : 0 < w) where
     fits-back j h = by (ℕ-discrete (j % w) 0)
       where
         by : Dec (j % w ≡ 0) → cond (eqb (j % w) 0) (isWhole (getD (matrixOf w false n numbers) j float.zero)) (eq (getD (matrixOf w false n numbers) j float.zero) float.zero) ≡ true
-        by (yes e) = rw (eq-eqb (j % w) 0 e) (ap isWhole (matrix-at w n numbers j h ∙ float-real w n numbers j e) ∙ whole (turned n (j / w)))
-        by (no e) = rw (ne-eqb (j % w) 0 e) (ap (λ (x : Float). eq x float.zero) (matrix-at w n numbers j h ∙ float-other w n numbers j e))
+        by (yes e) = rw (eq-eqb (j % w) 0 e) (ap isWhole (matrix-at w false n numbers j h ∙ float-general w n numbers j e) ∙ whole (turned n (j / w)))
+        by (no e) = rw (ne-eqb (j % w) 0 e) (ap (λ (x : Float). eq x float.zero) (matrix-at w false n numbers j h ∙ float-other w false n numbers j e))
 
     writable-back : isWritable w (matrixOf w false n numbers) ≡ true
     unfolding isWritable
-    writable-back = every-true (fitsAt w (matrixOf w false n numbers)) (length (matrixOf w false n numbers)) (λ j h. fits-back j (omega (arith, matrix-length w n numbers)))
+    writable-back = every-true (fitsAt w (matrixOf w false n numbers)) (length (matrixOf w false n numbers)) (λ j h. fits-back j (omega (arith, matrix-length w false n numbers)))
 
 -- ---- the text
 module _ (w n : ℕ) (numbers : List Float) (t : List ℕ) (positive : 0 < w) (market : Market true false n numbers t) where
@@ -108,7 +108,7 @@ module _ (w n : ℕ) (numbers : List Float) (t : List ℕ) (positive : 0 < w) (m
   pub write-back : (text : List ℕ) → length text ≡ page → writeLeft w n matrix text ≡ writeText t
   unfolding writeLeft
   write-back text room =
-      rw (le-ltb largest.n n (market .few), eq-eqb (length matrix) (n * n * w) (matrix-length w n numbers), eq-eqb (length text) page room, writable-back w n numbers positive (entries-whole (market .entries) numbers (market .listed))) (ap writeText text-same)
+      rw (le-ltb largest.n n (market .few), eq-eqb (length matrix) (n * n * w) (matrix-length w false n numbers), eq-eqb (length text) page room, writable-back w n numbers positive (entries-whole (market .entries) numbers (market .listed))) (ap writeText text-same)
 
   -- whatever was lent to either: a tidy text of a general matrix that is read, written again, is that text
   pub read-then-written : (out left : List Float) (m : ℕ) (text : List ℕ) → readLeft w t out ≡ readAnswered (value m) left → length text ≡ page → writeLeft w m left text ≡ writeText t

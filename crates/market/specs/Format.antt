@@ -1,14 +1,15 @@
 -- The format, line by line, apart from any reader: which texts are Matrix Market texts of the two kinds, of which matrix, and which of them are as the writer
 -- writes them. Definitions only.
-use Prim.Native.Nat.{ℕ, _+_, _*_, _/_, _≤_, _<_}
+use Prim.Native.Nat.{ℕ, zero, suc, _+_, _-_, _*_, _/_, _%_, _≤_, _<_}
 use mathlib.Core.Path.{_≡_}
 use mathlib.Core.Bool.{Bool, true, false, cond, _&&_}
 use mathlib.Core.List.{List, [], _∷_, _++_}
 use lib.Dec.{ltb}
 use lib.IntN.{pos}
-use lib.ListN.{length}
+use lib.ListN.{length, getD}
 use lib.Ieee.{Float, binary64, neg, ofInt}
 use Rattle.refusals.specs.Largest as largest
+use Rattle.real.specs.Operations as float
 use Rattle.texts.specs.Bytes as byte
 use Rattle.texts.specs.Digits.{byteAt, isDigit, noNewline}
 use Rattle.texts.specs.Whole.{worth}
@@ -75,3 +76,28 @@ pub record Market (tidy symmetric : Bool) (n : ℕ) (numbers : List Float) (text
   pub count : length numbers ≡ countOf symmetric n
   pub few : n ≤ largest.n
   pub fits : length text ≤ largest.market
+
+-- so many entries of column c, from row r on
+unfoldable pub columnFrom : (ℕ → ℕ → Float) → ℕ → ℕ → ℕ → List Float
+columnFrom at c r zero = []
+columnFrom at c r (suc d) = at r c ∷ columnFrom at c (r + 1) d
+
+-- the row that a column begins with: the first of all, or the diagonal's
+abbrev pub firstRow : Bool → ℕ → ℕ
+firstRow symmetric c = cond symmetric c 0
+
+-- so many columns, from column c on, each to the last row
+unfoldable pub columnsFrom : Bool → ℕ → (ℕ → ℕ → Float) → ℕ → ℕ → List Float
+columnsFrom symmetric n at c zero = []
+columnsFrom symmetric n at c (suc d) = columnFrom at c (firstRow symmetric c) (n - firstRow symmetric c) ++ columnsFrom symmetric n at (c + 1) d
+
+-- the real part at row r, column c of a matrix row by row, w floats a record
+abbrev pub realAt : ℕ → ℕ → List Float → ℕ → ℕ → Float
+realAt w n a r c = getD a ((r * n + c) * w) float.zero
+
+-- A matrix of these numbers: its real parts, column by column (all, or the diagonal and below, and the same above it), are the numbers; every other part is zero.
+pub record Holds (w : ℕ) (symmetric : Bool) (n : ℕ) (numbers a : List Float) : Type 0 where
+  pub long : length a ≡ n * n * w
+  pub columns : columnsFrom symmetric n (realAt w n a) 0 n ≡ numbers
+  pub mirrored : symmetric ≡ true → (r c : ℕ) → r < n → c < n → realAt w n a r c ≡ realAt w n a c r
+  pub slopes : (j : ℕ) → j < n * n * w → (j % w ≡ 0 → ⊥) → getD a j float.zero ≡ float.zero
