@@ -1,12 +1,12 @@
-/* Evindrast for C: dual numbers with their chain rules, and LU and Jacobi over them. Link libevindrast.a, which
-   bin/library proves and writes for the machine at hand.
+/* Evindrast for C: dual numbers with their chain rules, LU and Jacobi over them, and matrices read from Matrix Market
+   texts and written to them. Link libevindrast.a, which bin/library proves and writes for the machine at hand.
 
    How every call works
    - A record is a few doubles one after the other, the real part first (enum evindrast_kind says which). A matrix is
      n * n records row by row, a vector n records.
-   - A buffer is lent as a pointer and a length. A length counts doubles (or size_t's, for an order), never bytes or
-     records. Pointers are not null, also where the length is 0, and what a call writes, a count included, overlaps
-     nothing else that it is lent.
+   - A buffer is lent as a pointer and a length. A length counts doubles, never records; that of an order size_t's,
+     that of a text bytes. Pointers are not null, also where the length is 0, and what a call writes, a count included,
+     overlaps nothing else that it is lent.
    - The answer is 0 or the number of a refusal (enum evindrast_number). A call that is refused writes nothing, with
      one exception: LU's 6 leaves its column, and zeros in both outputs. What a buffer held before has no effect on a
      result.
@@ -42,7 +42,8 @@ extern "C" {
 #endif
 
 /* The numbers that a call gives back. Where several hold, a matrix is refused by the first in the order 1, 3, 2, 4, 7,
-   8, then the work begins; a record by 2 before 5. */
+   8, then the work begins; a record by 2 before 5; a text that is read by 10, 11, 1 up to its size line, then 2, then
+   the first fault in its entries, 10 or 12; a matrix that is written by 1, 2, 20. */
 enum evindrast_number {
     EVINDRAST_DONE = 0,
     EVINDRAST_TOO_LARGE = 1,          /* n above 32 */
@@ -52,12 +53,20 @@ enum evindrast_number {
     EVINDRAST_EXPONENT_TOO_LARGE = 5, /* a powi exponent outside -1,024..1,024 */
     EVINDRAST_SINGULAR = 6,           /* LU: in one column no pivot exceeds zero */
     EVINDRAST_NOT_AN_ORDER = 7,       /* a lent order is not a permutation of 0..n-1 */
-    EVINDRAST_WRONG_SWAPS = 8         /* determinant: a swap count above 32, or of the other parity than the order */
+    EVINDRAST_WRONG_SWAPS = 8,        /* determinant: a swap count above 32, or of the other parity than the order */
+    EVINDRAST_UNREADABLE_MARKET = 10, /* a text above 65,536 bytes, its header, size line or a number unreadable, or a
+                                         magnitude above 2^53 */
+    EVINDRAST_NOT_SQUARE = 11,        /* a text's two sizes differ */
+    EVINDRAST_WRONG_ENTRIES = 12,     /* a text has too few entries, or a byte after the last */
+    EVINDRAST_UNWRITABLE = 20         /* a real part is no whole number of magnitude up to 2^53, or a derivative part is
+                                         not zero */
 };
 
-#define EVINDRAST_MAX_N 32            /* the largest n */
-#define EVINDRAST_MAX_SWEEPS 1000     /* the largest sweep limit */
-#define EVINDRAST_MAX_EXPONENT 1024   /* powi's largest exponent, and its smallest with the sign turned */
+#define EVINDRAST_MAX_N 32               /* the largest n */
+#define EVINDRAST_MAX_SWEEPS 1000        /* the largest sweep limit */
+#define EVINDRAST_MAX_EXPONENT 1024      /* powi's largest exponent, and its smallest with the sign turned */
+#define EVINDRAST_MAX_MARKET_BYTES 65536 /* the most bytes of a text that is read */
+#define EVINDRAST_MARKET_BYTES 20480     /* the bytes that are lent for a text to be written: no text needs more */
 
 /* The kinds of records, with their doubles in order. */
 enum evindrast_kind {
@@ -238,6 +247,40 @@ uint32_t evindrast_hyperdual_inverse(size_t n, const double *factors, size_t fac
    Answers: 0, 1, 2, 3, 4. */
 uint32_t evindrast_jacobi_eigenvalue(size_t n, const double *a, size_t a_len, size_t limit, double *values,
                                      size_t values_len, double *vectors, size_t vectors_len, size_t *sweeps);
+
+/* Matrix Market texts: a matrix of whole numbers. A text is read that is, each line ended by a newline,
+       %%MatrixMarket matrix array integer general      or  .. symmetric
+       % any number of comment lines, here alone
+       N N                                              digits, one space, digits
+       one entry a line, column by column               digits, with a minus before them or none
+   and nothing more. `general` has all n * n entries, `symmetric` of each column those from the diagonal down. A number
+   counts by its value, so leading zeros are good; an entry's magnitude is at most 2^53, and -0 is +0. `0 0` is a matrix
+   without entries.
+
+   The size of the matrix in a text: *n, written at 0. What stands after the size line is not read.
+   text: any number of bytes.
+   Answers: 0, 10, 11, 1, checked in this order. */
+uint32_t evindrast_market_size(const uint8_t *text, size_t text_len, size_t *n);
+
+/* The matrix in a text, into EVINDRAST_DUAL records, and under the name with hyperdual into EVINDRAST_HYPERDUAL
+   records; w doubles a record, so w is 2 or 4. To read a text whose size is not known, ask evindrast_market_size for n,
+   lend w * n * n doubles, and read.
+   text: any number of bytes; out: w * n * n doubles.
+   At 0: `out` holds the matrix row by row, the derivative parts +0.0, and `*n` its size.
+   Answers: 0; 10, 11, 1 of what stands before the entries; then 2; then the first fault in the entries: 10 at a byte
+   that no readable text has there, 12 where the text ends before the last entry's newline or goes on after it. */
+uint32_t evindrast_market_read(const uint8_t *text, size_t text_len, double *out, size_t out_len, size_t *n);
+uint32_t evindrast_hyperdual_market_read(const uint8_t *text, size_t text_len, double *out, size_t out_len, size_t *n);
+
+/* The text of a matrix, `general`, without comments or leading zeros, -0 as 0. Reading it gives the matrix, with +0 for
+   -0.
+   a: w * n * n doubles; text: EVINDRAST_MARKET_BYTES bytes, whatever n is.
+   At 0: `text` starts with the text, `*length` is its length in bytes, and the bytes after it are zero.
+   Answers: 0, 1, 2, 20, checked in this order. */
+uint32_t evindrast_market_write(size_t n, const double *a, size_t a_len, uint8_t *text, size_t text_len,
+                                size_t *length);
+uint32_t evindrast_hyperdual_market_write(size_t n, const double *a, size_t a_len, uint8_t *text, size_t text_len,
+                                          size_t *length);
 
 /* What evindrast_environment tells. */
 #define EVINDRAST_ENVIRONMENT_ROUNDING 1   /* results are not rounded to nearest, ties to even */

@@ -1,8 +1,8 @@
 //! The library's functions over lent slices, as `include/evindrast.h` has them: for callers that
 //! keep their own buffers. The answer is 0 or a refusal's number ([`Refusal`](crate::Refusal)); a
 //! call that is refused writes nothing, but for the 6 of [`lu`] and [`hyperdual_lu`]. A matrix is
-//! n·n records row by row, a record its floats with the real part first; lengths count floats. No
-//! size, length or number is too much: each call answers.
+//! n·n records row by row, a record its floats with the real part first; lengths count floats,
+//! those of a text bytes. No size, length or number is too much: each call answers.
 
 extern "C" {
     fn evindrast_record(
@@ -43,6 +43,7 @@ extern "C" {
         vectors_len: usize,
         sweeps: *mut usize,
     ) -> u32;
+    fn evindrast_market_size(text: *const u8, text_len: usize, n: *mut usize) -> u32;
 }
 
 // Every call below is sound for any arguments: the library promises an answer for every input and
@@ -306,4 +307,60 @@ pub fn jacobi_eigenvalue(
             sweeps,
         )
     }
+}
+
+/// The size of the matrix in a Matrix Market text, left in `n`; what stands after the size line is
+/// not read. Answers: 0, 10, 11, 1.
+pub fn market_size(text: &[u8], n: &mut usize) -> u32 {
+    unsafe { evindrast_market_size(text.as_ptr(), text.len(), n) }
+}
+
+macro_rules! markets {
+    ($record:literal, $floats:literal, $read:ident $library_read:ident,
+        $write:ident $library_write:ident) => {
+        extern "C" {
+            fn $library_read(
+                text: *const u8,
+                text_len: usize,
+                out: *mut f64,
+                out_len: usize,
+                n: *mut usize,
+            ) -> u32;
+            fn $library_write(
+                n: usize,
+                a: *const f64,
+                a_len: usize,
+                text: *mut u8,
+                text_len: usize,
+                length: *mut usize,
+            ) -> u32;
+        }
+
+        #[doc = concat!("The matrix of [`", $record, "`](crate::", $record, ") in a Matrix Market")]
+        #[doc = concat!("text, ", $floats, "n² floats.")]
+        /// `out` and `n`, its size, are written at 0; [`market_size`] tells n beforehand. Answers:
+        /// 0, 10, 11, 1, 2, then 10 or 12 by the first fault in the entries.
+        pub fn $read(text: &[u8], out: &mut [f64], n: &mut usize) -> u32 {
+            let (text, text_len) = (text.as_ptr(), text.len());
+            unsafe { $library_read(text, text_len, out.as_mut_ptr(), out.len(), n) }
+        }
+
+        #[doc = concat!("Matrix Market's text of a matrix of [`", $record, "`](crate::", $record, "), ")]
+        #[doc = concat!($floats, "n² floats.")]
+        /// `text`, [`MARKET_BYTES`](crate::MARKET_BYTES) long, and `length` are written at 0; what
+        /// the text does not take is zero. Answers: 0, 1, 2, 20.
+        pub fn $write(n: usize, a: &[f64], text: &mut [u8], length: &mut usize) -> u32 {
+            let (a, a_len) = (a.as_ptr(), a.len());
+            unsafe { $library_write(n, a, a_len, text.as_mut_ptr(), text.len(), length) }
+        }
+    };
+}
+
+markets! {
+    "Dual64", 2, market_read evindrast_market_read, market_write evindrast_market_write
+}
+
+markets! {
+    "HyperDual64", 4, hyperdual_market_read evindrast_hyperdual_market_read,
+    hyperdual_market_write evindrast_hyperdual_market_write
 }

@@ -1,5 +1,6 @@
 //! Automatic differentiation by a library that is proved: num-dual's scalar dual numbers over f64,
-//! their chain rules, and LU and Jacobi over them, under num-dual's names.
+//! their chain rules, and LU and Jacobi over them, under num-dual's names; and matrices from Matrix
+//! Market texts and back.
 //!
 //! ```
 //! use evindrast::{Dual64, DualNum, HyperDual64};
@@ -29,6 +30,12 @@
 //! # Ok(())
 //! # }
 //! ```
+//!
+//! # Matrix Market texts
+//! [`Matrix::from_market`] reads a matrix of whole numbers from the bytes of a file, whose first
+//! line is `%%MatrixMarket matrix array integer`, then `general` or `symmetric`; the derivative
+//! parts are zero. [`Matrix::to_market`] writes one back. The example `desk` goes from such a file
+//! to rate and offset of a reel.
 //!
 //! # What is proved, and what is not
 //! Every operation on records and matrices is a call of the static library, whose code is proved
@@ -67,6 +74,7 @@ pub mod exports;
 mod function;
 mod layout;
 mod linalg;
+mod market;
 mod matrix;
 mod records;
 mod refusal;
@@ -76,6 +84,7 @@ pub use dual_num::DualNum;
 pub use environment::{environment, Environment};
 pub use function::{Function, Kind};
 pub use linalg::{jacobi_eigenvalue, Eigen, Entry, LU};
+pub use market::{MARKET_BYTES, MAX_MARKET_BYTES};
 pub use matrix::{Matrix, MAX_N};
 pub use records::{Dual2_64, Dual3_64, Dual64, HyperDual64, HyperHyperDual64};
 pub use refusal::Refusal;

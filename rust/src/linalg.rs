@@ -10,16 +10,19 @@ mod library {
         fn solve(factors: &[Self], order: &[usize], b: &[Self], x: &mut [Self]) -> u32;
         fn determinant(f: &[Self], order: &[usize], swaps: usize, out: &mut Self) -> u32;
         fn inverse(factors: &[Self], order: &[usize], out: &mut [Self]) -> u32;
+        fn market_read(text: &[u8], out: &mut [Self], n: &mut usize) -> u32;
+        fn market_write(n: usize, a: &[Self], text: &mut [u8], length: &mut usize) -> u32;
     }
 }
 
-/// Records that matrices for [`LU`] are made of: [`Dual64`] and [`HyperDual64`]. No other type can
-/// implement it.
+/// Records that matrices for [`LU`] and for Matrix Market texts are made of: [`Dual64`] and
+/// [`HyperDual64`]. No other type can implement it.
 pub trait Entry: DualNum + library::Entries {}
 
 macro_rules! entry {
     ($record:ident, [$($part:ident),*],
-        $lu:ident, $solve:ident, $determinant:ident, $inverse:ident) => {
+        $lu:ident, $solve:ident, $determinant:ident, $inverse:ident,
+        $market_read:ident, $market_write:ident) => {
         impl Entry for $record {}
 
         impl library::Entries for $record {
@@ -47,18 +50,28 @@ macro_rules! entry {
             fn inverse(factors: &[Self], order: &[usize], out: &mut [Self]) -> u32 {
                 exports::$inverse(order.len(), floats(factors), order, floats_mut(out))
             }
+
+            fn market_read(text: &[u8], out: &mut [Self], n: &mut usize) -> u32 {
+                exports::$market_read(text, floats_mut(out), n)
+            }
+
+            fn market_write(n: usize, a: &[Self], text: &mut [u8], length: &mut usize) -> u32 {
+                exports::$market_write(n, floats(a), text, length)
+            }
         }
     };
 }
 
-entry!(Dual64, [re, eps], lu, solve, determinant, inverse);
+entry!(Dual64, [re, eps], lu, solve, determinant, inverse, market_read, market_write);
 entry!(
     HyperDual64,
     [re, eps1, eps2, eps1eps2],
     hyperdual_lu,
     hyperdual_solve,
     hyperdual_determinant,
-    hyperdual_inverse
+    hyperdual_inverse,
+    hyperdual_market_read,
+    hyperdual_market_write
 );
 
 /// LU decomposition of a square matrix.

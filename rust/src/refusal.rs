@@ -28,6 +28,16 @@ pub enum Refusal {
     NotAnOrder,
     /// 8: a swap count above 32, or of the other parity than the order.
     WrongSwaps,
+    /// 10: a Matrix Market text above 65,536 bytes, or whose header, size line or a number cannot be
+    /// read, or with a magnitude above 2^53.
+    UnreadableMarket,
+    /// 11: a Matrix Market text whose two sizes differ.
+    NotSquare,
+    /// 12: a Matrix Market text with too few entries, or with a byte after the last.
+    WrongEntries,
+    /// 20: a matrix with a real part that is no whole number of magnitude up to 2^53, or with a
+    /// derivative part that is not zero: no Matrix Market text of whole numbers holds it.
+    Unwritable,
 }
 
 impl Refusal {
@@ -42,6 +52,10 @@ impl Refusal {
             Refusal::Singular { .. } => 6,
             Refusal::NotAnOrder => 7,
             Refusal::WrongSwaps => 8,
+            Refusal::UnreadableMarket => 10,
+            Refusal::NotSquare => 11,
+            Refusal::WrongEntries => 12,
+            Refusal::Unwritable => 20,
         }
     }
 
@@ -57,6 +71,10 @@ impl Refusal {
             6 => Err(Refusal::Singular { column }),
             7 => Err(Refusal::NotAnOrder),
             8 => Err(Refusal::WrongSwaps),
+            10 => Err(Refusal::UnreadableMarket),
+            11 => Err(Refusal::NotSquare),
+            12 => Err(Refusal::WrongEntries),
+            20 => Err(Refusal::Unwritable),
             _ => unreachable!("the library promises no answer {number}"),
         }
     }
@@ -77,6 +95,19 @@ impl fmt::Display for Refusal {
             }
             Refusal::NotAnOrder => "the order is not a permutation of the rows",
             Refusal::WrongSwaps => "the swap count does not fit the order",
+            Refusal::UnreadableMarket => {
+                "the file is above 65,536 bytes, or its first line is not \"%%MatrixMarket matrix \
+                 array integer\" with \"general\" or \"symmetric\", or its size line is not two \
+                 numbers with one space between, or an entry is not a whole number up to 2^53, \
+                 alone on its line"
+            }
+            Refusal::NotSquare => "the matrix in the file has not as many columns as rows",
+            Refusal::WrongEntries => {
+                "the file ends before its last entry, or something stands after that"
+            }
+            Refusal::Unwritable => {
+                "an entry is not a whole number up to 2^53, or it has a slope: no file holds it"
+            }
         };
         write!(f, "refused {}: {reason}", self.number())
     }
@@ -91,7 +122,7 @@ mod tests {
     #[test]
     fn numbers_go_both_ways() {
         assert_eq!(Refusal::check(0, 5), Ok(()));
-        for number in 1..=8 {
+        for number in (1..=8).chain(10..=12).chain([20]) {
             assert_eq!(Refusal::check(number, 5).map_err(Refusal::number), Err(number));
         }
         assert_eq!(Refusal::check(6, 5), Err(Refusal::Singular { column: 5 }));
@@ -102,5 +133,7 @@ mod tests {
         let text = Refusal::Singular { column: 3 }.to_string();
         assert_eq!(text, "refused 6: the matrix is singular at column 3");
         assert!(Refusal::ExponentTooLarge.to_string().starts_with("refused 5: "));
+        let text = Refusal::NotSquare.to_string();
+        assert_eq!(text, "refused 11: the matrix in the file has not as many columns as rows");
     }
 }

@@ -1,9 +1,25 @@
-//! The C header and this crate give everything the same number.
-use evindrast::{jacobi_eigenvalue, Kind, Matrix, Refusal, MAX_N};
+//! The C header and this crate declare the same functions and give everything the same number.
+use evindrast::{exports, jacobi_eigenvalue, Kind, Matrix, Refusal};
 use evindrast::{Dual2_64, Dual3_64, Dual64, DualNum, Function, HyperDual64, HyperHyperDual64};
-use std::collections::BTreeMap;
+use evindrast::{MARKET_BYTES, MAX_MARKET_BYTES, MAX_N};
+use std::collections::{BTreeMap, BTreeSet};
 
 const HEADER: &str = include_str!("../../include/evindrast.h");
+
+/// Each function of the library is declared in the header and in the crate's `exports`.
+#[test]
+fn declarations() {
+    let name = |line: &'static str| {
+        let (answer, rest) = line.split_once(' ')?;
+        let answers = ["uint32_t", "uint64_t", "double"].contains(&answer);
+        rest.split('(').next().filter(|_| answers)
+    };
+    let header: BTreeSet<_> = HEADER.lines().filter_map(name).collect();
+    let exports = include_str!("../src/exports.rs");
+    let words = exports.split(|c: char| !c.is_alphanumeric() && c != '_');
+    let own: BTreeSet<_> = words.filter(|word| word.starts_with("evindrast_")).collect();
+    assert_eq!(header, own);
+}
 
 /// The header's names without their prefix, in this crate's spelling, with their numbers.
 fn numbers(of: &str) -> BTreeMap<String, u32> {
@@ -76,6 +92,20 @@ fn limits() {
     assert!(x.try_powi(-exponent).is_ok() && x.try_powi(-exponent - 1).is_err());
 }
 
+#[test]
+fn bytes_of_texts() {
+    assert_eq!(defined_number("MARKET_BYTES"), MARKET_BYTES);
+    let written = |bytes: usize| exports::market_write(0, &[], &mut vec![0; bytes], &mut 0);
+    assert_eq!([0, 1, 2].map(|more| written(MARKET_BYTES - 1 + more)), [2, 0, 2]);
+    assert_eq!(defined_number("MAX_MARKET_BYTES"), MAX_MARKET_BYTES);
+    let sized = |bytes: usize| {
+        let mut text = b"%%MatrixMarket matrix array integer general\n0 0\n".to_vec();
+        text.resize(bytes, b'0');
+        exports::market_size(&text, &mut 0)
+    };
+    assert_eq!([sized(MAX_MARKET_BYTES), sized(MAX_MARKET_BYTES + 1)], [0, 10]);
+}
+
 /// Header and crate are of one version.
 #[test]
 fn version() {
@@ -95,6 +125,10 @@ fn refusals() {
         Refusal::Singular { column: 0 },
         Refusal::NotAnOrder,
         Refusal::WrongSwaps,
+        Refusal::UnreadableMarket,
+        Refusal::NotSquare,
+        Refusal::WrongEntries,
+        Refusal::Unwritable,
     ];
     let mut wanted = BTreeMap::from([("Done".to_string(), 0)]);
     for refusal in refusals {

@@ -15,6 +15,11 @@ pub struct Ran {
 
 /// Builds a program under a name of its own and runs it.
 pub fn run(name: &str, source: &str, flags: &[&str]) -> Ran {
+    ran(&mut Command::new(built(name, source, flags)))
+}
+
+/// Builds a program under a name of its own.
+pub fn built(name: &str, source: &str, flags: &[&str]) -> PathBuf {
     let root = Path::new(env!("CARGO_MANIFEST_DIR")).join("..");
     let program = Path::new(env!("CARGO_TARGET_TMPDIR")).join(name);
     let text = program.with_extension("c");
@@ -30,7 +35,12 @@ pub fn run(name: &str, source: &str, flags: &[&str]) -> Ran {
         .output()
         .expect("a C compiler");
     assert!(built.status.success(), "{name}: {}", String::from_utf8_lossy(&built.stderr));
-    let ran = Command::new(program).output().expect("the program");
+    program
+}
+
+/// Runs a program.
+pub fn ran(command: &mut Command) -> Ran {
+    let ran = command.output().expect("the program");
     let words = |bytes: &[u8]| String::from_utf8_lossy(bytes).into_owned();
     Ran { good: ran.status.success(), out: words(&ran.stdout), err: words(&ran.stderr) }
 }
