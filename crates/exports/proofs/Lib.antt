@@ -3,5 +3,5 @@ mod Crossed
 mod KindArms
 -- this crate's promises leave one outcome each
 mod OneAnswer
--- what is written is read again, and what is read is written again
-mod MarketTrips
+-- calls of the Matrix Market exports, one and two
+mod MarketCalls

@@ -14,6 +14,9 @@ pub mod Fronts
 pub mod HeadTaken
 pub mod EntriesTaken
 pub mod FormatRead
+-- what the number 0 says, and what a call leaves beside its answer
+pub mod Refusals
+pub mod Buffers
 -- where the entries stand, and the matrix of them
 pub mod Places
 pub mod ColumnByColumn

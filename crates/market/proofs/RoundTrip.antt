@@ -22,6 +22,8 @@ use Rattle.market.specs.Read.{readAnswered, readLeft}
 use Rattle.market.specs.Text.{textOf, isWritable}
 use Rattle.market.specs.Write.{WriteLeft, page, writeAnswered, writeText, writeLeft}
 use Rattle.market.proofs.Fronts.{wrong}
+use Rattle.market.proofs.Refusals.{done}
+use Rattle.market.proofs.Buffers.{write-numbered}
 use Rattle.market.proofs.WholeFloats.{backOf}
 use Rattle.market.proofs.Zeros.{plusZero, back-is}
 use Rattle.market.proofs.EntryLines.{entriesOf}
@@ -83,18 +85,11 @@ module _ (w n : ℕ) (a : List Float) where
   said text left m e = says-by text left m (ltb largest.n n) (eqb (length a) (n * n * w) && eqb (length text) page) (isWritable w a) refl refl refl e
 
   -- an answer that has the number 0 tells a length
-  told-by : (text : List ℕ) (large lengths can : Bool)
-      → let left = cond large (writeAnswered (refused refusal.tooLarge) text) (cond lengths (cond can (writeText (textOf w n a)) (writeAnswered (refused refusal.unwritable) text)) (writeAnswered (refused refusal.wrongLength) text)) in
-      numberOf (left .answer) ≡ 0 → (m : ℕ) × (left ≡ writeAnswered (value m) (left .text))
-  unfolding writeText
-  told-by text true lengths can e = absurd (omega arith)
-  told-by text false false can e = absurd (omega arith)
-  told-by text false true false e = absurd (omega arith)
-  told-by text false true true e = (length (textOf w n a), refl)
-
   pub told-length : (text : List ℕ) → numberOf (writeLeft w n a text .answer) ≡ 0 → (m : ℕ) × (writeLeft w n a text ≡ writeAnswered (value m) (writeLeft w n a text .text))
-  unfolding writeLeft
-  told-length text e = told-by text (ltb largest.n n) (eqb (length a) (n * n * w) && eqb (length text) page) (isWritable w a) e
+  told-length text e =
+      let left = writeLeft w n a text in
+      let told = done (left .answer) (write-numbered w n a text) e in
+      (told .0, ap (λ (o : Outcome ℕ). writeAnswered o (left .text)) (told .1))
 
   -- Whatever the writer was lent: if it answers with a length m, the first m bytes that it leaves are a tidy text of the format,
   pub write-market : (text left : List ℕ) (m : ℕ) → 0 < w → writeLeft w n a text ≡ writeAnswered (value m) left → Market true false n (map backOf (entriesOf w n a)) (take m left)
