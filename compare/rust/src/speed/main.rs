@@ -1,7 +1,10 @@
 //! The time of the port's functions beside the original Rust's, in one process on the same inputs,
-//! once both have given the same words. docs/SPEED.md says what is counted.
+//! once both have given the same words. docs/SPEED.md says what is counted. The argument, where
+//! there is one, names a file for one of the Matrix Market texts, so that others can be timed on it.
 mod case;
 mod inputs;
+mod market;
+mod plain_market;
 mod port;
 mod records;
 mod timing;
@@ -12,6 +15,7 @@ use compare::random::Random;
 use compare::record::{DualKind, HyperDualKind};
 use evindrast::exports;
 use inputs::{Input, Square};
+use market::Texts;
 use port::Port;
 use std::hint::black_box;
 use timing::{Times, in_turn};
@@ -27,6 +31,7 @@ fn main() {
     let dual = cases::<DualKind>(&mut random);
     let hyperdual = cases::<HyperDualKind>(&mut random);
     let pairs = records::all(&mut random);
+    let texts = texts(&mut Random::new(1, "speed, texts"));
     roots
         .iter()
         .for_each(|x| assert_eq!(exports::sqrt(*x).to_bits(), x.sqrt().to_bits(), "root of {x}"));
@@ -38,7 +43,11 @@ fn main() {
             .sum::<usize>()
         + hyperdual.iter().flatten().map(Case::compare).sum::<usize>()
         + pairs.iter().map(|pair| pair.compared).sum::<usize>();
-    println!("{compared} words compared, 0 different");
+    let (floats, bytes) = texts
+        .iter()
+        .map(Texts::compare)
+        .fold((0, 0), |(floats, bytes), (more, again)| (floats + more, bytes + again));
+    println!("{} words and {bytes} bytes compared, 0 different", compared + floats);
 
     println!("| function | n | port, ns | Rust, ns | ratio | half of the runs | fastest runs |");
     println!("|---|---:|---:|---:|---:|---|---:|");
@@ -50,6 +59,24 @@ fn main() {
     print_all("", &functions(), &dual);
     print_all("", &[("Jacobi", jacobi)], &dual);
     print_all("HyperDual: ", &functions(), &hyperdual);
+    print_texts(&texts);
+}
+
+/// The Matrix Market texts of every size from 4 on.
+fn texts(random: &mut Random) -> Vec<Texts> {
+    SIZES[1..].iter().map(|n| Texts::new(random, *n)).collect()
+}
+
+/// Their rows; the first text of the largest size goes to the file that the argument names.
+fn print_texts(texts: &[Texts]) {
+    for (name, times) in market::ROWS {
+        texts.iter().for_each(|texts| print(name, &texts.n.to_string(), &times(texts)));
+    }
+    let largest = &texts[texts.len() - 1];
+    print(market::SYMMETRIC.0, &largest.n.to_string(), &market::SYMMETRIC.1(largest));
+    if let Some(path) = std::env::args().nth(1) {
+        std::fs::write(&path, &largest.general[0]).unwrap_or_else(|why| panic!("{path}: {why}"));
+    }
 }
 
 /// The inputs of every size.

@@ -19,9 +19,9 @@ pub fn in_turn<P, T>(
     lend: impl Fn(usize) -> P,
     mut port: impl FnMut(P),
     make: impl Fn(usize) -> T,
-    rust: impl Fn(T),
+    mut rust: impl FnMut(T),
 ) -> Times {
-    let calls = calls(&make, &rust);
+    let calls = calls(&make, &mut rust);
     let mut times = vec![];
     for run in 0..RUNS {
         let items = || run * calls..(run + 1) * calls;
@@ -30,9 +30,9 @@ pub fn in_turn<P, T>(
         // each is first every other time
         let pair = if run % 2 == 0 {
             let first = nanoseconds(calls, || lent.into_iter().for_each(&mut port));
-            [first, nanoseconds(calls, || made.into_iter().for_each(&rust))]
+            [first, nanoseconds(calls, || made.into_iter().for_each(&mut rust))]
         } else {
-            let first = nanoseconds(calls, || made.into_iter().for_each(&rust));
+            let first = nanoseconds(calls, || made.into_iter().for_each(&mut rust));
             [nanoseconds(calls, || lent.into_iter().for_each(&mut port)), first]
         };
         times.push(pair);
@@ -54,12 +54,12 @@ pub fn in_turn<P, T>(
 }
 
 /// How many calls of the Rust fill a run, by the last of some tries.
-fn calls<T>(make: &impl Fn(usize) -> T, rust: &impl Fn(T)) -> usize {
+fn calls<T>(make: &impl Fn(usize) -> T, mut rust: impl FnMut(T)) -> usize {
     let (tries, calls) = (5, 64);
     let mut one = RUN;
     for _ in 0..tries {
         let made: Vec<T> = (0..calls).map(make).collect();
-        one = nanoseconds(calls, || made.into_iter().for_each(rust));
+        one = nanoseconds(calls, || made.into_iter().for_each(&mut rust));
     }
     ((RUN / one) as usize).clamp(1, 1024)
 }
