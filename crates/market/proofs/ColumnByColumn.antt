@@ -1,19 +1,18 @@
 -- Where the entries of a text stand, column by column: each column begins where the one before it ends, by induction over the columns. Assumes nothing.
 use Prim.Native.Nat.{ℕ, zero, suc, _+_, _-_, _*_, _/_, _<_, _≤_}
 use mathlib.Core.Path.{_≡_, refl, sym, ap, _∙_}
-use mathlib.Core.Bool.{Bool, true, false, cond}
-use mathlib.Core.List.{List, [], _∷_, _++_}
+use mathlib.Core.Bool.{Bool, true, false}
+use mathlib.Core.List.{List, _∷_, _++_}
 use native.Mathlib.Nat.{mul-le-mul-left}
 use native.Mathlib.Decide.{ℕ-discrete}
 use native.Mathlib.Omega.{arith}
-use lib.Dec.{leb}
 use lib.ListN.{length, getD, drop, drop-of-length-le, List·getD-append}
 use lib.Seq.{drop-cons, getD-append-add}
 use lib.Ieee.{Float}
 use borrow.Author.Tests.{le-leb}
 use Rattle.real.specs.Operations as float
 use Rattle.market.specs.Format.{countOf, columnFrom, firstRow, columnsFrom}
-use Rattle.market.specs.Entries.{lowerPlace, placeOf}
+use Rattle.market.specs.Entries.{placeOf}
 
 -- ---- half of c * (c + 1)
 triangle-next : (c : ℕ) → (c + 1) * (c + 1 + 1) / 2 ≡ c * (c + 1) / 2 + (c + 1)

@@ -1,5 +1,5 @@
 -- The matrix that a text is read to holds its numbers column by column, and no other does: so that the format alone says what is read. Assumes nothing.
-use Prim.Native.Nat.{ℕ, _+_, _*_, _/_, _%_, _<_, _≤_}
+use Prim.Native.Nat.{ℕ, _*_, _/_, _%_, _<_, _≤_}
 use mathlib.Core.Path.{_≡_, refl, sym, ap, _∙_, subst}
 use mathlib.Core.Bool.{Bool, true, false, cond}
 use mathlib.Core.List.{List}
@@ -10,10 +10,10 @@ use lib.Dec.{leb}
 use lib.ListN.{length, getD}
 use lib.Seq.{ext-getD}
 use lib.Ieee.{Float}
-use borrow.Author.Tests.{le-leb, lt-leb, leb-true, leb-false}
+use borrow.Author.Tests.{leb-true, leb-false}
 use Rattle.real.specs.Operations as float
 use Rattle.algebra.specs.Outcome.{value}
-use Rattle.market.specs.Format.{Market, Holds, countOf, firstRow, columnsFrom, realAt}
+use Rattle.market.specs.Format.{Market, Holds, countOf, firstRow, realAt}
 use Rattle.market.specs.Entries.{lowerPlace, placeOf, floatOf, matrixOf}
 use Rattle.market.specs.Read.{readAnswered, readLeft}
 use Rattle.market.proofs.Places.{first-of}

@@ -1,9 +1,8 @@
 -- What the reader leaves, way by way, over what its inner functions tell. Assumes nothing.
 use Prim.Native.Nat.{ℕ, _*_, _≤_, _<_}
-use mathlib.Core.Path.{_≡_, refl, sym, ap, _∙_, subst}
+use mathlib.Core.Path.{_≡_, sym, ap, _∙_, subst}
 use mathlib.Core.Bool.{Bool, cond}
 use mathlib.Core.List.{List}
-use lib.Dec.{eqb}
 use lib.ListN.{length, drop}
 use lib.Ieee.{Float}
 use borrow.Author.Tests.{eq-eqb, ne-eqb}
@@ -11,10 +10,8 @@ use Rattle.refusals.specs.Number as refusal
 use Rattle.refusals.specs.Largest as largest
 use Rattle.matrices.specs.Matrix.{Square}
 use Rattle.algebra.specs.Outcome.{Outcome, value, refused, mapOutcome}
-use Rattle.market.specs.declared.MarketAnswer.{MarketAnswer}
-use Rattle.market.specs.Answers.{marketOutcome}
 use Rattle.market.specs.Format.{countOf}
-use Rattle.market.specs.Head.{Opened, opened, headOf, sizeOf}
+use Rattle.market.specs.Head.{Opened, headOf, sizeOf}
 use Rattle.market.specs.Entries.{numbersOf, matrixOf}
 use Rattle.market.specs.Read.{ReadLeft, readAnswered, readNumbers, readBody, readOpened, readLeft}
 use Rattle.market_reader.specs.declared.Opening.{Opening}

@@ -9,17 +9,17 @@ use lib.IntN.{pos}
 use lib.ListN.{length, set, take, drop, length-drop, length-set}
 use lib.Seq.{drop-drop, append-snoc, take-suc-set, take-all}
 use lib.Ieee.{Float, binary64, neg, ofInt, inFloat}
-use borrow.Author.Tests.{lt-ltb, le-ltb, eq-eqb, ne-eqb, not-true, not-false}
+use borrow.Author.Tests.{lt-ltb, le-ltb, eq-eqb, ne-eqb}
 use Rattle.refusals.specs.Number as refusal
 use Rattle.refusals.specs.Largest as largest
 use Rattle.algebra.specs.Outcome.{Outcome, value, refused, mapOutcome}
 use Rattle.texts.specs.declared.Scan.{Scan}
 use Rattle.texts.specs.Bytes as byte
 use Rattle.texts.specs.Digits.{byteAt}
-use Rattle.texts.specs.Whole.{worth, past, Found}
+use Rattle.texts.specs.Whole.{worth, Found}
 use Rattle.texts.proofs.WholeNumbers.{first-at, byte-inside, found-none, found-some, found-next, found-after}
 use Rattle.market.specs.Format.{signed}
-use Rattle.market.specs.Entries.{Line, line, isOver, magnitudeLine, entryOf, entryThen, numbersOf}
+use Rattle.market.specs.Entries.{isOver, magnitudeLine, entryOf, entryThen, numbersOf}
 use Rattle.market_reader.specs.declared.Entry.{Entry}
 use Rattle.market_reader.specs.declared.Entry.the-variants.{Is, Not}
 use Rattle.market_reader.specs.Told.{Reads, Faults, TellsEntry, faultOf, toldNumbers}

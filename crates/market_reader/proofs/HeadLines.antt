@@ -5,7 +5,7 @@ use mathlib.Core.Bool.{Bool, true, false, cond, not, _||_, true≢false}
 use mathlib.Core.List.{List, _∷_}
 use native.Mathlib.Omega.{arith}
 use lib.Dec.{leb, ltb, eqb}
-use lib.ListN.{length, getD, drop, drop-of-length-le}
+use lib.ListN.{length, drop, drop-of-length-le}
 use lib.Seq.{drop-cons}
 use borrow.Author.Tests.{lt-ltb, le-ltb, leb-true, leb-false, eq-eqb, ne-eqb, eqb-true}
 use Rattle.refusals.specs.Number as refusal
@@ -13,8 +13,8 @@ use Rattle.refusals.specs.Largest as largest
 use Rattle.algebra.specs.Outcome.{Outcome, value, refused}
 use Rattle.texts.specs.declared.Scan.{Scan}
 use Rattle.texts.specs.Bytes as byte
-use Rattle.texts.specs.Digits.{byteAt, numberAt, every, startsWith}
-use Rattle.texts.specs.Whole.{worth, past, Capped, Found}
+use Rattle.texts.specs.Digits.{byteAt, numberAt, startsWith}
+use Rattle.texts.specs.Whole.{worth, Capped, Found}
 use Rattle.texts.proofs.Every.{every-at}
 use Rattle.texts.proofs.WholeNumbers.{byte-inside, found-none, found-some, found-next, found-after}
 use Rattle.market.specs.Format.{header}

@@ -17,7 +17,7 @@ use Rattle.texts.proofs.Page.{written-length, written-fits}
 use Rattle.matrices.specs.Matrix.{Square}
 use Rattle.market.specs.Text.{textOf, isWritable}
 use Rattle.market.specs.Write as Write
-use Rattle.market.specs.Write.{WriteLeft, writeAnswered, writeText, writeLeft}
+use Rattle.market.specs.Write.{writeAnswered, writeText, writeLeft}
 use Rattle.market.proofs.Length.{text-short}
 
 -- ---- zeros after the text

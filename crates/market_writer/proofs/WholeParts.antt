@@ -13,7 +13,6 @@ use borrow.Author.Tests.{le-leb, lt-leb, eq-eqb, ne-eqb}
 use Rattle.refusals.specs.Largest as largest
 use Rattle.real.specs.Operations as float
 use Rattle.algebra.proofs.Inside.{getD-inside}
-use Rattle.texts.specs.Digits.{every}
 use Rattle.texts.proofs.Every.{every-false, Passed, passed-none, passed-more, passed-all}
 use Rattle.market.specs.Text.{magnitude, wholePart, isWholeMagnitude, isWhole, fitsAt, isWritable}
 use Rattle.market_writer.specs.declared.Whole.{Whole}
