@@ -25,12 +25,10 @@ use Rattle.jacobi.specs.Entry.{JacobiLeft, jacobiAnswered}
 use Rattle.jacobi.specs.Answer.{outcome}
 use Rattle.jacobi.specs.declared.JacobiAnswer.{JacobiAnswer}
 use Rattle.jacobi.specs.declared.JacobiAnswer.the-variants as jacobi
-use Rattle.market.specs.Answers.{marketOutcome}
-use Rattle.market.specs.Read.{ReadLeft, readAnswered}
-use Rattle.market.specs.Write.{WriteLeft, writeAnswered}
+use Rattle.market.specs.Answers.{marketOutcome, Left, answered}
 use Rattle.market.specs.declared.MarketAnswer.{MarketAnswer}
 use Rattle.market.specs.declared.MarketAnswer.the-variants as market
-use Rattle.exports.specs.Numbered.{countOf, swapsOrColumn, luNumbered, solveNumbered, determinantNumbered, hyperDualDeterminantNumbered, jacobiNumbered, sizeNumbered, readNumbered, writeNumbered}
+use Rattle.exports.specs.Numbered.{countOf, swapsOrColumn, luNumbered, solveNumbered, determinantNumbered, hyperDualDeterminantNumbered, jacobiNumbered, sizeNumbered, leftNumbered}
 
 -- the answer is k, and the entry left l: what crosses is l's
 pub crossed : {A L T : Type 0} (reading : A → L) (cross : L → T) (answer k : A) (l : L) → reading answer ≡ l → answer ≡ k → cross (reading k) ≡ cross l
@@ -95,10 +93,6 @@ market-refused before number k answer told read = (read, ap (λ (r : MarketAnswe
 pub size-crossed : (before number after : ℕ) (answer : MarketAnswer) (o : Outcome ℕ) → number ≡ numberOf (marketOutcome answer) → after ≡ countOf before (marketOutcome answer) → marketOutcome answer ≡ o → (number, after) ≡ sizeNumbered before o
 size-crossed before number after answer o told written promise = (λ i. (told i, written i)) ∙ ap (sizeNumbered before) promise
 
-pub read-crossed : (before number after : ℕ) (out : List Float) (answer : MarketAnswer) (l : ReadLeft) → number ≡ numberOf (marketOutcome answer) → after ≡ countOf before (marketOutcome answer) → readAnswered (marketOutcome answer) out ≡ l
-    → (number, (after, out)) ≡ readNumbered before l
-read-crossed before number after out answer l told written promise = (λ i. (told i, (written i, out))) ∙ ap (readNumbered before) promise
-
-pub write-crossed : (before number after : ℕ) (text : List ℕ) (answer : MarketAnswer) (l : WriteLeft) → number ≡ numberOf (marketOutcome answer) → after ≡ countOf before (marketOutcome answer) → writeAnswered (marketOutcome answer) text ≡ l
-    → (number, (after, text)) ≡ writeNumbered before l
-write-crossed before number after text answer l told written promise = (λ i. (told i, (written i, text))) ∙ ap (writeNumbered before) promise
+pub left-crossed : {A : Type 0} (before number after : ℕ) (buffer : List A) (answer : MarketAnswer) (l : Left A) → number ≡ numberOf (marketOutcome answer) → after ≡ countOf before (marketOutcome answer) → answered (marketOutcome answer) buffer ≡ l
+    → (number, (after, buffer)) ≡ leftNumbered before l
+left-crossed before number after buffer answer l told written promise = (λ i. (told i, (written i, buffer))) ∙ ap (leftNumbered before) promise

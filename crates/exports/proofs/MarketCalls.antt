@@ -14,16 +14,17 @@ use denote.Ref.{now}
 use denote.Triple.Clauses.{Lasts, atExit}
 use Rattle.real.specs.Operations as float
 use Rattle.algebra.specs.Outcome.{Outcome, value, refused, numberOf}
+use Rattle.market.specs.Answers.{Left, answered}
 use Rattle.market.specs.Format.{Market}
 use Rattle.market.specs.Read.{readLeft}
-use Rattle.market.specs.Write.{WriteLeft, writeAnswered, writeText, page, writeLeft}
+use Rattle.market.specs.Write.{writeText, page, writeLeft}
 use Rattle.market.specs.Entries.{matrixOf}
 use Rattle.market.proofs.Refusals.{Numbered}
-use Rattle.market.proofs.Buffers.{read-numbered, read-kept, read-alike, write-numbered, write-kept, write-alike}
+use Rattle.market.proofs.Buffers.{Kept, Alike, read-numbered, read-kept, read-alike, write-numbered, write-kept, write-alike}
 use Rattle.market.proofs.ReadsFormat.{market-read, tidy-market}
 use Rattle.market.proofs.RoundTrip.{plain, told-length, round-trip}
 use Rattle.market.proofs.WriteBack.{write-back}
-use Rattle.exports.specs.Numbered.{countOf, readNumbered, writeNumbered}
+use Rattle.exports.specs.Numbered.{countOf, leftNumbered}
 use Rattle.exports.proofs.matrix_market.evindrast_market_read as read
 use Rattle.exports.proofs.matrix_market.evindrast_market_write as write
 use Rattle.exports.proofs.matrix_market.evindrast_hyperdual_market_read as hyper-read
@@ -31,10 +32,10 @@ use Rattle.exports.proofs.matrix_market.evindrast_hyperdual_market_writ
 
 -- the promises, at w floats a record
 abbrev ReadPromise : ℕ → Out 3 read.Kinds.ps read.Kinds.r
-ReadPromise w κs a x s = (x, (now (s .1 .1 .0), now (s .1 .0))) ≡ readNumbered (now (a .1 .1 .0)) (readLeft w (now (a .0)) (now (a .1 .0)))
+ReadPromise w κs a x s = (x, (now (s .1 .1 .0), now (s .1 .0))) ≡ leftNumbered (now (a .1 .1 .0)) (readLeft w (now (a .0)) (now (a .1 .0)))
 
 abbrev WritePromise : ℕ → Out 3 write.Kinds.ps write.Kinds.r
-WritePromise w κs a x s = (x, (now (s .1 .1 .1 .0), now (s .1 .1 .0))) ≡ writeNumbered (now (a .1 .1 .1 .0)) (writeLeft w (a .0) (now (a .1 .0)) (now (a .1 .1 .0)))
+WritePromise w κs a x s = (x, (now (s .1 .1 .1 .0), now (s .1 .1 .0))) ≡ leftNumbered (now (a .1 .1 .1 .0)) (writeLeft w (a .0) (now (a .1 .0)) (now (a .1 .1 .0)))
 
 -- ---- one call, and two of the same
 module _ (reads : Out 3 read.Kinds.ps read.Kinds.r) where
@@ -68,52 +69,52 @@ module _ (writes : Out 3 write.Kinds.ps write.Kinds.r) where
       a .0 ≡ a′ .0 → now (a .1 .0) ≡ now (a′ .1 .0) → length (now (a .1 .1 .0)) ≡ length (now (a′ .1 .1 .0)) →
       (x ≡ x′) × (x ≡ 0 → (v .1 .1 .1 .0 ≡ v′ .1 .1 .1 .0) × (v .1 .1 .0 ≡ v′ .1 .1 .0))
 
--- the count at two places, where the answer is done
+-- of what crosses, whatever was lent to be written: where the call is refused, the count and the buffer are as they were
+nothing-written : {A : Type 0} (before x after : ℕ) (buffer lent : List A) (l : Left A) → Kept l lent → (x, (after, buffer)) ≡ leftNumbered before l → (x ≡ 0 → ⊥) → (after ≡ before) × (buffer ≡ lent)
+nothing-written {A} before x after buffer lent l kept p other =
+    let refusal = kept (λ e. other (ap (λ (t : ℕ × (ℕ × List A)). t .0) p ∙ e)) in
+    let e = p ∙ ap (leftNumbered before) (refusal .1) in
+    (ap (λ (t : ℕ × (ℕ × List A)). t .1 .0) e, ap (λ (t : ℕ × (ℕ × List A)). t .1 .1) e)
+
+-- the count is the same, whatever stood there, where the call is done
 count-same : (before before′ : ℕ) (o : Outcome ℕ) → Numbered o → numberOf o ≡ 0 → countOf before o ≡ countOf before′ o
 count-same before before′ (value m) h e = refl
 count-same before before′ (refused number) h e = absurd (omega arith)
 
+-- and what two calls that are alike leave crosses alike
+same-left : {A : Type 0} (before before′ x x′ after after′ : ℕ) (buffer buffer′ : List A) (l l′ : Left A) → Numbered (l .answer) → Alike l l′ → (x, (after, buffer)) ≡ leftNumbered before l → (x′, (after′, buffer′)) ≡ leftNumbered before′ l′
+    → (x ≡ x′) × (x ≡ 0 → (after ≡ after′) × (buffer ≡ buffer′))
+same-left {A} before before′ x x′ after after′ buffer buffer′ l l′ numbered alike p p′ =
+    let number = ap (λ (t : ℕ × (ℕ × List A)). t .0) p in (
+      number ∙ ap numberOf (alike .answers) ∙ sym (ap (λ (t : ℕ × (ℕ × List A)). t .0) p′),
+      λ done. (
+        ap (λ (t : ℕ × (ℕ × List A)). t .1 .0) p ∙ count-same before before′ (l .answer) numbered (sym number ∙ done) ∙ ap (countOf before′) (alike .answers) ∙ sym (ap (λ (t : ℕ × (ℕ × List A)). t .1 .0) p′),
+        ap (λ (t : ℕ × (ℕ × List A)). t .1 .1) p ∙ alike .buffers (sym number ∙ done) ∙ sym (ap (λ (t : ℕ × (ℕ × List A)). t .1 .1) p′),
+      ),
+    )
+
 nothing-read-by : (w : ℕ) → ReadNothingWritten (ReadPromise w)
-nothing-read-by w κs a x v p other =
-    let kept = read-kept w (now (a .0)) (now (a .1 .0)) (λ e. other (ap (λ (t : ℕ × (ℕ × List Float)). t .0) p ∙ e)) in
-    let e = p ∙ ap (readNumbered (now (a .1 .1 .0))) (kept .1) in
-    (ap (λ (t : ℕ × (ℕ × List Float)). t .1 .0) e, ap (λ (t : ℕ × (ℕ × List Float)). t .1 .1) e)
+nothing-read-by w κs a x v p other = nothing-written (now (a .1 .1 .0)) x _ _ (now (a .1 .0)) (readLeft w (now (a .0)) (now (a .1 .0))) (read-kept w (now (a .0)) (now (a .1 .0))) p other
 
 nothing-written-by : (w : ℕ) → WriteNothingWritten (WritePromise w)
 nothing-written-by w κs a x v p other =
-    let kept = write-kept w (a .0) (now (a .1 .0)) (now (a .1 .1 .0)) (λ e. other (ap (λ (t : ℕ × (ℕ × List ℕ)). t .0) p ∙ e)) in
-    let e = p ∙ ap (writeNumbered (now (a .1 .1 .1 .0))) (kept .1) in
-    (ap (λ (t : ℕ × (ℕ × List ℕ)). t .1 .0) e, ap (λ (t : ℕ × (ℕ × List ℕ)). t .1 .1) e)
+    let lent = now (a .1 .1 .0) in
+    nothing-written (now (a .1 .1 .1 .0)) x _ _ lent (writeLeft w (a .0) (now (a .1 .0)) lent) (write-kept w (a .0) (now (a .1 .0)) lent) p other
 
 previous-read-by : (w : ℕ) → ReadPreviousContents (ReadPromise w)
 previous-read-by w κs κs′ a a′ x x′ v v′ p p′ text long =
     let first = readLeft w (now (a .0)) (now (a .1 .0)) in
-    let alike = read-alike w (now (a .0)) (now (a .1 .0)) (now (a′ .1 .0)) long in
     let second = ap (λ (t : List ℕ). readLeft w t (now (a′ .1 .0))) text in
-    let e = p′ ∙ ap (readNumbered (now (a′ .1 .1 .0))) (sym second) in (
-      ap (λ (t : ℕ × (ℕ × List Float)). t .0) p ∙ ap numberOf (alike .answers) ∙ sym (ap (λ (t : ℕ × (ℕ × List Float)). t .0) e),
-      λ done.
-          let zero-is = sym (ap (λ (t : ℕ × (ℕ × List Float)). t .0) p) ∙ done in (
-            ap (λ (t : ℕ × (ℕ × List Float)). t .1 .0) p ∙ count-same (now (a .1 .1 .0)) (now (a′ .1 .1 .0)) (first .answer) (read-numbered w (now (a .0)) (now (a .1 .0))) zero-is
-                ∙ ap (countOf (now (a′ .1 .1 .0))) (alike .answers) ∙ sym (ap (λ (t : ℕ × (ℕ × List Float)). t .1 .0) e),
-            ap (λ (t : ℕ × (ℕ × List Float)). t .1 .1) p ∙ alike .outs zero-is ∙ sym (ap (λ (t : ℕ × (ℕ × List Float)). t .1 .1) e),
-          ),
-    )
+    same-left (now (a .1 .1 .0)) (now (a′ .1 .1 .0)) x x′ _ _ _ _ first (readLeft w (now (a .0)) (now (a′ .1 .0))) (read-numbered w (now (a .0)) (now (a .1 .0)))
+    (read-alike w (now (a .0)) (now (a .1 .0)) (now (a′ .1 .0)) long) p (p′ ∙ ap (leftNumbered (now (a′ .1 .1 .0))) (sym second))
 
 previous-written-by : (w : ℕ) → WritePreviousContents (WritePromise w)
 previous-written-by w κs κs′ a a′ x x′ v v′ p p′ size matrix long =
-    let first = writeLeft w (a .0) (now (a .1 .0)) (now (a .1 .1 .0)) in
-    let alike = write-alike w (a .0) (now (a .1 .0)) (now (a .1 .1 .0)) (now (a′ .1 .1 .0)) long in
-    let second : writeLeft w (a .0) (now (a .1 .0)) (now (a′ .1 .1 .0)) ≡ writeLeft w (a′ .0) (now (a′ .1 .0)) (now (a′ .1 .1 .0)) = (λ i. writeLeft w (size i) (matrix i) (now (a′ .1 .1 .0))) in
-    let e = p′ ∙ ap (writeNumbered (now (a′ .1 .1 .1 .0))) (sym second) in (
-      ap (λ (t : ℕ × (ℕ × List ℕ)). t .0) p ∙ ap numberOf (alike .answers) ∙ sym (ap (λ (t : ℕ × (ℕ × List ℕ)). t .0) e),
-      λ done.
-          let zero-is = sym (ap (λ (t : ℕ × (ℕ × List ℕ)). t .0) p) ∙ done in (
-            ap (λ (t : ℕ × (ℕ × List ℕ)). t .1 .0) p ∙ count-same (now (a .1 .1 .1 .0)) (now (a′ .1 .1 .1 .0)) (first .answer) (write-numbered w (a .0) (now (a .1 .0)) (now (a .1 .1 .0))) zero-is
-                ∙ ap (countOf (now (a′ .1 .1 .1 .0))) (alike .answers) ∙ sym (ap (λ (t : ℕ × (ℕ × List ℕ)). t .1 .0) e),
-            ap (λ (t : ℕ × (ℕ × List ℕ)). t .1 .1) p ∙ alike .texts zero-is ∙ sym (ap (λ (t : ℕ × (ℕ × List ℕ)). t .1 .1) e),
-          ),
-    )
+    let lent = now (a .1 .1 .0) in
+    let lent′ = now (a′ .1 .1 .0) in
+    let second : writeLeft w (a .0) (now (a .1 .0)) lent′ ≡ writeLeft w (a′ .0) (now (a′ .1 .0)) lent′ = (λ i. writeLeft w (size i) (matrix i) lent′) in
+    same-left (now (a .1 .1 .1 .0)) (now (a′ .1 .1 .1 .0)) x x′ _ _ _ _ (writeLeft w (a .0) (now (a .1 .0)) lent) (writeLeft w (a .0) (now (a .1 .0)) lent′) (write-numbered w (a .0) (now (a .1 .0)) lent)
+    (write-alike w (a .0) (now (a .1 .0)) lent lent′ long) p (p′ ∙ ap (leftNumbered (now (a′ .1 .1 .1 .0))) (sym second))
 
 pub market-read-nothing-written : ReadNothingWritten read.Reads.Post
 market-read-nothing-written = nothing-read-by 2
@@ -160,7 +161,7 @@ module _ (w : ℕ) (writes : Out 3 write.Kinds.ps write.Kinds.r) (reads : Out 3 
       (v : Lasts (endedOf 3 read.Kinds.ps read.Kinds.r) κs b) (v′ : Lasts (endedOf 3 write.Kinds.ps write.Kinds.r) κs′ a) →
       reads κs b y (atExit (endedOf 3 read.Kinds.ps read.Kinds.r) κs b v) → writes κs′ a x (atExit (endedOf 3 write.Kinds.ps write.Kinds.r) κs′ a v′) →
       (numbers : List Float) → Market true false (a .0) numbers (now (b .0)) → length (now (b .1 .0)) ≡ a .0 * a .0 * w → now (a .1 .0) ≡ v .1 .0 → length (now (a .1 .1 .0)) ≡ page →
-      (y ≡ 0) × ((x ≡ 0) × (writeAnswered (value (v′ .1 .1 .1 .0)) (v′ .1 .1 .0) ≡ writeText (now (b .0))))
+      (y ≡ 0) × ((x ≡ 0) × (answered (value (v′ .1 .1 .1 .0)) (v′ .1 .1 .0) ≡ writeText (now (b .0))))
 
 round-trip-by : (w : ℕ) → 0 < w → RoundTrip w (WritePromise w) (ReadPromise w)
 round-trip-by w positive κs κs′ a b x y v v′ p q machine done given room =
@@ -170,10 +171,10 @@ round-trip-by w positive κs κs′ a b x y v v′ p q machine done given room =
     let out = now (b .1 .0) in
     let before = now (a .1 .1 .1 .0) in
     let told = told-length w n matrix (now (a .1 .1 .0)) (sym (ap (λ (t : ℕ × (ℕ × List ℕ)). t .0) p) ∙ done) in
-    let long = ap (λ (t : ℕ × (ℕ × List ℕ)). t .1 .0) p ∙ ap (λ (l : WriteLeft). countOf before (l .answer)) (told .1) in
+    let long = ap (λ (t : ℕ × (ℕ × List ℕ)). t .1 .0) p ∙ ap (λ (l : Left ℕ). countOf before (l .answer)) (told .1) in
     let text = ap (λ (t : ℕ × (ℕ × List ℕ)). t .1 .1) p in
-    let read-again = ap (λ (t : List ℕ). readLeft w t out) (given ∙ (λ i. take (long i) (text i))) ∙ round-trip w n matrix (now (a .1 .1 .0)) (left .text) (told .0) out positive machine (told .1) room in
-    let e = q ∙ ap (readNumbered (now (b .1 .1 .0))) read-again in
+    let read-again = ap (λ (t : List ℕ). readLeft w t out) (given ∙ (λ i. take (long i) (text i))) ∙ round-trip w n matrix (now (a .1 .1 .0)) (left .buffer) (told .0) out positive machine (told .1) room in
+    let e = q ∙ ap (leftNumbered (now (b .1 .1 .0))) read-again in
     (ap (λ (t : ℕ × (ℕ × List Float)). t .0) e, (ap (λ (t : ℕ × (ℕ × List Float)). t .1 .0) e, ap (λ (t : ℕ × (ℕ × List Float)). t .1 .1) e))
 
 same-text-by : (w : ℕ) → 0 < w → SameText w (WritePromise w) (ReadPromise w)
@@ -182,13 +183,13 @@ same-text-by w positive κs κs′ b a y x v v′ q p numbers market room given 
     let n = a .0 in
     let text = now (b .0) in
     let matrix = matrixOf w false n numbers in
-    let e = q ∙ ap (readNumbered (now (b .1 .1 .0))) (market-read w false n numbers text (tidy-market false n numbers text market) (now (b .1 .0)) room) in
+    let e = q ∙ ap (leftNumbered (now (b .1 .1 .0))) (market-read w false n numbers text (tidy-market false n numbers text market) (now (b .1 .0)) room) in
     let left = ap (λ (t : ℕ × (ℕ × List Float)). t .1 .1) e in
-    let f = p ∙ ap (writeNumbered (now (a .1 .1 .1 .0))) (ap (λ (l : List Float). writeLeft w n l (now (a .1 .1 .0))) (given ∙ left) ∙ write-back w n numbers text positive market (now (a .1 .1 .0)) lent) in (
+    let f = p ∙ ap (leftNumbered (now (a .1 .1 .1 .0))) (ap (λ (l : List Float). writeLeft w n l (now (a .1 .1 .0))) (given ∙ left) ∙ write-back w n numbers text positive market (now (a .1 .1 .0)) lent) in (
       ap (λ (t : ℕ × (ℕ × List Float)). t .0) e,
       (
         ap (λ (t : ℕ × (ℕ × List ℕ)). t .0) f,
-        λ i. writeAnswered (value (f i .1 .0)) (f i .1 .1),
+        λ i. answered (value (f i .1 .0)) (f i .1 .1),
       ),
     )
 

@@ -10,8 +10,7 @@ use Rattle.dual.specs.declared.Dual.{Dual}
 use Rattle.hyperdual.specs.declared.HyperDual.{HyperDual}
 use Rattle.matrices.specs.Entries.{LuLeft, SolveLeft}
 use Rattle.jacobi.specs.Entry.{JacobiLeft}
-use Rattle.market.specs.Read.{ReadLeft}
-use Rattle.market.specs.Write.{WriteLeft}
+use Rattle.market.specs.Answers.{Left}
 
 -- a count: written where the call is done, else as it was
 abbrev pub countOf : ℕ → Outcome ℕ → ℕ
@@ -44,12 +43,9 @@ hyperDualDeterminantNumbered re eps1 eps2 eps1eps2 (refused number) = (number, (
 abbrev pub jacobiNumbered : ℕ → JacobiLeft → ℕ × (ℕ × (List Float × List Float))
 jacobiNumbered before l = (numberOf (l .answer), (countOf before (l .answer), (l .values, l .vectors)))
 
--- Matrix Market: the number, the size or the length, what was lent
+-- Matrix Market: the number, the size or the length, and what was lent to be written
 abbrev pub sizeNumbered : ℕ → Outcome ℕ → ℕ × ℕ
 sizeNumbered before o = (numberOf o, countOf before o)
 
-abbrev pub readNumbered : ℕ → ReadLeft → ℕ × (ℕ × List Float)
-readNumbered before l = (numberOf (l .answer), (countOf before (l .answer), l .out))
-
-abbrev pub writeNumbered : ℕ → WriteLeft → ℕ × (ℕ × List ℕ)
-writeNumbered before l = (numberOf (l .answer), (countOf before (l .answer), l .text))
+abbrev pub leftNumbered : {A : Type 0} → ℕ → Left A → ℕ × (ℕ × List A)
+leftNumbered before l = (numberOf (l .answer), (countOf before (l .answer), l .buffer))

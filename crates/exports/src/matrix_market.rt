@@ -6,7 +6,7 @@ ghost use Rattle.market.specs.Answers.{marketOutcome};
 ghost use Rattle.market.specs.Head.{sizeOf};
 ghost use Rattle.market.specs.Read.{readLeft};
 ghost use Rattle.market.specs.Write.{writeLeft};
-ghost use Rattle.exports.specs.Numbered.{countOf, sizeNumbered, readNumbered, writeNumbered};
+ghost use Rattle.exports.specs.Numbered.{countOf, sizeNumbered, leftNumbered};
 
 // The number of an answer; the count beside it is written where the call is done.
 pub(crate) fn market_number(answer: MarketAnswer, count: &mut usize) -> u32
@@ -32,7 +32,7 @@ pub extern "C" fn evindrast_market_size(text: &[u8], n: &mut usize) -> u32
 // The matrix in a text, row by row, and its size.
 #[no_mangle]
 pub extern "C" fn evindrast_market_read(text: &[u8], out: &mut [f64], n: &mut usize) -> u32
-    ensures { λ r. ⌜ (r, (now (n .exit), now (out .exit))) ≡ readNumbered (now (n .entry)) (readLeft 2 (now (text .entry)) (now (out .entry))) ⌝ }
+    ensures { λ r. ⌜ (r, (now (n .exit), now (out .exit))) ≡ leftNumbered (now (n .entry)) (readLeft 2 (now (text .entry)) (now (out .entry))) ⌝ }
 {
     let answer = market_reader::read(text, out);
     market_number(answer, n)
@@ -46,7 +46,7 @@ pub extern "C" fn evindrast_market_write(
     text: &mut [u8],
     length: &mut usize,
 ) -> u32
-    ensures { λ r. ⌜ (r, (now (length .exit), now (text .exit))) ≡ writeNumbered (now (length .entry)) (writeLeft 2 n (now (a .entry)) (now (text .entry))) ⌝ }
+    ensures { λ r. ⌜ (r, (now (length .exit), now (text .exit))) ≡ leftNumbered (now (length .entry)) (writeLeft 2 n (now (a .entry)) (now (text .entry))) ⌝ }
 {
     let answer = market_writer::write(n, a, text);
     market_number(answer, length)
@@ -59,7 +59,7 @@ pub extern "C" fn evindrast_hyperdual_market_read(
     out: &mut [f64],
     n: &mut usize,
 ) -> u32
-    ensures { λ r. ⌜ (r, (now (n .exit), now (out .exit))) ≡ readNumbered (now (n .entry)) (readLeft 4 (now (text .entry)) (now (out .entry))) ⌝ }
+    ensures { λ r. ⌜ (r, (now (n .exit), now (out .exit))) ≡ leftNumbered (now (n .entry)) (readLeft 4 (now (text .entry)) (now (out .entry))) ⌝ }
 {
     let answer = market_reader::read_hyperdual(text, out);
     market_number(answer, n)
@@ -72,7 +72,7 @@ pub extern "C" fn evindrast_hyperdual_market_write(
     text: &mut [u8],
     length: &mut usize,
 ) -> u32
-    ensures { λ r. ⌜ (r, (now (length .exit), now (text .exit))) ≡ writeNumbered (now (length .entry)) (writeLeft 4 n (now (a .entry)) (now (text .entry))) ⌝ }
+    ensures { λ r. ⌜ (r, (now (length .exit), now (text .exit))) ≡ leftNumbered (now (length .entry)) (writeLeft 4 n (now (a .entry)) (now (text .entry))) ⌝ }
 {
     let answer = market_writer::write_hyperdual(n, a, text);
     market_number(answer, length)

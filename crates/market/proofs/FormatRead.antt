@@ -13,10 +13,11 @@ use Rattle.refusals.specs.Number as refusal
 use Rattle.algebra.specs.Outcome.{Outcome, value, refused}
 use Rattle.texts.specs.Bytes as byte
 use Rattle.texts.specs.Digits.{startsWith}
+use Rattle.market.specs.Answers.{Left, answered}
 use Rattle.market.specs.Format.{Market, header, countOf}
 use Rattle.market.specs.Head.{Opened, comments, afterHeader, headOf}
 use Rattle.market.specs.Entries.{numbersOf, matrixOf}
-use Rattle.market.specs.Read.{ReadLeft, readAnswered, readNumbers, readOpened, readBody, readLeft}
+use Rattle.market.specs.Read.{readNumbers, readOpened, readBody, readLeft}
 use Rattle.market.proofs.Fronts.{wrong, taken, spared, header-split}
 use Rattle.market.proofs.ReadsFormat.{untidy}
 use Rattle.market.proofs.HeadTaken.{Passed, comments-split, Sized, size-split}
@@ -86,34 +87,34 @@ pub record Reading (w : ℕ) (text : List ℕ) (out : List Float) (n : ℕ) (lef
 
 module _ (w : ℕ) (text : List ℕ) (out : List Float) (n : ℕ) (left : List Float) where
   -- the call answers with a size
-  unanswered : (number : ℕ) → readAnswered (refused number) out ≡ readAnswered (value n) left → ⊥
-  unanswered number e = wrong number n (ap (λ (l : ReadLeft). l .answer) e)
+  unanswered : (number : ℕ) → answered (refused number) out ≡ answered (value n) left → ⊥
+  unanswered number e = wrong number n (ap (λ (l : Left Float). l .answer) e)
 
   module _ (o : Opened) (head : headOf text ≡ value o) where
-    reading-numbers : (r : Outcome (List Float)) → numbersOf (countOf (o .symmetric) (o .n)) (o .rest) ≡ r → length out ≡ o .n * o .n * w → readNumbers w out (o .symmetric) (o .n) r ≡ readAnswered (value n) left → Reading w text out n left
+    reading-numbers : (r : Outcome (List Float)) → numbersOf (countOf (o .symmetric) (o .n)) (o .rest) ≡ r → length out ≡ o .n * o .n * w → readNumbers w out (o .symmetric) (o .n) r ≡ answered (value n) left → Reading w text out n left
     reading-numbers (refused number) f room e = absurd (unanswered number e)
     reading-numbers (value numbers) f room e =
-        let answers : _≡_ {A = Outcome ℕ} (value (o .n)) (value n) = ap (λ (l : ReadLeft). l .answer) e in
+        let answers : _≡_ {A = Outcome ℕ} (value (o .n)) (value n) = ap (λ (l : Left Float). l .answer) e in
         let size : o .n ≡ n = cc in
         record {
           room = room ∙ ap (λ (m : ℕ). m * m * w) size;
           symmetric = o .symmetric;
           numbers = numbers;
           market = subst (λ (m : ℕ). Market false (o .symmetric) m numbers text) size (opened-market text o numbers head f);
-          matrix = ap (λ (l : ReadLeft). l .out) (sym e) ∙ ap (λ (m : ℕ). matrixOf w (o .symmetric) m numbers) size;
+          matrix = ap (λ (l : Left Float). l .buffer) (sym e) ∙ ap (λ (m : ℕ). matrixOf w (o .symmetric) m numbers) size;
         }
 
     reading-body : (t : Bool) → eqb (length out) (o .n * o .n * w) ≡ t
-        → cond t (readNumbers w out (o .symmetric) (o .n) (numbersOf (countOf (o .symmetric) (o .n)) (o .rest))) (readAnswered (refused refusal.wrongLength) out) ≡ readAnswered (value n) left → Reading w text out n left
+        → cond t (readNumbers w out (o .symmetric) (o .n) (numbersOf (countOf (o .symmetric) (o .n)) (o .rest))) (answered (refused refusal.wrongLength) out) ≡ answered (value n) left → Reading w text out n left
     reading-body true f e = reading-numbers (numbersOf (countOf (o .symmetric) (o .n)) (o .rest)) refl (eqb-true (length out) (o .n * o .n * w) f) e
     reading-body false f e = absurd (unanswered refusal.wrongLength e)
 
-  reading-opened : (r : Outcome Opened) → headOf text ≡ r → readOpened w out r ≡ readAnswered (value n) left → Reading w text out n left
+  reading-opened : (r : Outcome Opened) → headOf text ≡ r → readOpened w out r ≡ answered (value n) left → Reading w text out n left
   unfolding readBody
   reading-opened (refused number) f e = absurd (unanswered number e)
   reading-opened (value o) f e = reading-body o f (eqb (length out) (o .n * o .n * w)) refl e
 
   -- whatever is read is a text of the format
-  pub read-market : readLeft w text out ≡ readAnswered (value n) left → Reading w text out n left
+  pub read-market : readLeft w text out ≡ answered (value n) left → Reading w text out n left
   unfolding readLeft
   read-market e = reading-opened (headOf text) refl e

@@ -13,9 +13,10 @@ use lib.Ieee.{Float}
 use borrow.Author.Tests.{leb-true, leb-false}
 use Rattle.real.specs.Operations as float
 use Rattle.algebra.specs.Outcome.{value}
+use Rattle.market.specs.Answers.{answered}
 use Rattle.market.specs.Format.{Market, Holds, countOf, firstRow, realAt}
 use Rattle.market.specs.Entries.{lowerPlace, placeOf, floatOf, matrixOf}
-use Rattle.market.specs.Read.{readAnswered, readLeft}
+use Rattle.market.specs.Read.{readLeft}
 use Rattle.market.proofs.Places.{first-of}
 use Rattle.market.proofs.ColumnByColumn.{listed-at, listed-back}
 use Rattle.market.proofs.MatrixAt.{matrix-length, matrix-at, float-real, float-other, real-at}
@@ -87,12 +88,12 @@ module _ (w : ℕ) (positive : 0 < w) (symmetric : Bool) (n : ℕ) (numbers : Li
 
 -- a text of the format is read to the matrix that holds its numbers
 pub holds-read : (w : ℕ) → 0 < w → (symmetric : Bool) (n : ℕ) (numbers : List Float) (text : List ℕ) (a out : List Float) → Market false symmetric n numbers text → Holds w symmetric n numbers a → length out ≡ n * n * w
-    → readLeft w text out ≡ readAnswered (value n) a
+    → readLeft w text out ≡ answered (value n) a
 holds-read w positive symmetric n numbers text a out market holds room =
-    market-read w symmetric n numbers text market out room ∙ ap (readAnswered (value n)) (sym (holds-one w positive symmetric n numbers a holds))
+    market-read w symmetric n numbers text market out room ∙ ap (answered (value n)) (sym (holds-one w positive symmetric n numbers a holds))
 
 -- and whatever is read is such a text, and what is left holds its numbers
-pub read-holds : (w : ℕ) → 0 < w → (text : List ℕ) (out : List Float) (n : ℕ) (left : List Float) → readLeft w text out ≡ readAnswered (value n) left → (reading : Reading w text out n left) × Holds w (reading .symmetric) n (reading .numbers) left
+pub read-holds : (w : ℕ) → 0 < w → (text : List ℕ) (out : List Float) (n : ℕ) (left : List Float) → readLeft w text out ≡ answered (value n) left → (reading : Reading w text out n left) × Holds w (reading .symmetric) n (reading .numbers) left
 read-holds w positive text out n left e =
     let reading = read-market w text out n left e in
     (reading, subst (Holds w (reading .symmetric) n (reading .numbers)) (sym (reading .matrix)) (matrix-holds w positive (reading .symmetric) n (reading .numbers) (reading .market .count)))

@@ -15,8 +15,9 @@ use Rattle.refusals.specs.Largest as largest
 use Rattle.real.specs.Operations as float
 use Rattle.algebra.specs.Outcome.{value}
 use Rattle.algebra.proofs.Flat.{tabulate-at, tabulate-map}
+use Rattle.market.specs.Answers.{answered}
 use Rattle.market.specs.Entries.{floatOf, matrixOf}
-use Rattle.market.specs.Read.{readAnswered, readLeft}
+use Rattle.market.specs.Read.{readLeft}
 use Rattle.market.specs.Text.{entryAt, textOf, isWritable}
 use Rattle.market.proofs.WholeFloats.{backOf}
 use Rattle.market.proofs.Places.{turned, turned-inside, turned-back, first-of}
@@ -52,10 +53,10 @@ module _ (w n : ℕ) (a : List Float) (positive : 0 < w) (size : length a ≡ n 
         by (no e) = float-other w false n (map backOf (entriesOf w n a)) j e ∙ ap (λ (t : Bool). cond t (backOf (getD a j float.zero)) float.zero) (sym (ne-eqb (j % w) 0 e))
 
   -- reading what was written gives a matrix b if b has each real part read back, and +0 as each other part
-  pub read-back : (b out : List Float) → n ≤ largest.n → length out ≡ n * n * w → length b ≡ n * n * w → ((j : ℕ) → j < n * n * w → backAt j ≡ getD b j float.zero) → readLeft w (textOf w n a) out ≡ readAnswered (value n) b
+  pub read-back : (b out : List Float) → n ≤ largest.n → length out ≡ n * n * w → length b ≡ n * n * w → ((j : ℕ) → j < n * n * w → backAt j ≡ getD b j float.zero) → readLeft w (textOf w n a) out ≡ answered (value n) b
   read-back b out few room long same =
       let numbers = map backOf (entriesOf w n a) in
       market-read w false n numbers (textOf w n a) (tidy-market false n numbers (textOf w n a) (written-market w n a positive size good few)) out room
-      ∙ ap (readAnswered (value n))
+      ∙ ap (answered (value n))
       (ext-getD float.zero (matrixOf w false n numbers) b (matrix-length w false n numbers ∙ sym long)
       (λ j h. let g : j < n * n * w = omega (arith, matrix-length w false n numbers) in matrix-at w false n numbers j g ∙ float-back j g ∙ same j g))

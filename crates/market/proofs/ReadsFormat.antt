@@ -13,12 +13,13 @@ use Rattle.texts.specs.Bytes as byte
 use Rattle.texts.specs.Digits.{byteAt, isDigit}
 use Rattle.texts.specs.Whole.{worth}
 use Rattle.texts.proofs.Newline.{Clear, clear-text}
+use Rattle.market.specs.Answers.{answered}
 use Rattle.market.specs.Format.{Comments, Entries, Market, signed, countOf}
 use Rattle.market.specs.Format.Comments.{none as uncommented, comment}
 use Rattle.market.specs.Format.Entries.{none, entry}
 use Rattle.market.specs.Head.{Opened, opened, comments, squared, sizeLine, headOf, sizeOf}
 use Rattle.market.specs.Entries.{entryThen, numbersOf, matrixOf}
-use Rattle.market.specs.Read.{readAnswered, readNumbers, readOpened, readBody, readLeft}
+use Rattle.market.specs.Read.{readNumbers, readOpened, readBody, readLeft}
 use Rattle.market.proofs.Decimals.{first-digit}
 use Rattle.market.proofs.Lines.{no-comment, header-read, size-read, square-read, entry-read}
 
@@ -66,7 +67,7 @@ market-size symmetric n numbers text market = ap (mapOutcome (λ (o : Opened). o
 
 -- a text of the format is read to its matrix
 pub market-read : (w : ℕ) (symmetric : Bool) (n : ℕ) (numbers : List Float) (text : List ℕ) → Market false symmetric n numbers text → (out : List Float) → length out ≡ n * n * w
-    → readLeft w text out ≡ readAnswered (value n) (matrixOf w symmetric n numbers)
+    → readLeft w text out ≡ answered (value n) (matrixOf w symmetric n numbers)
 unfolding readLeft readBody
 market-read w symmetric n numbers text market out room =
     ap (readOpened w out) (head-is symmetric n numbers text market)

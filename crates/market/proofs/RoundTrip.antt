@@ -17,10 +17,11 @@ use Rattle.algebra.specs.Outcome.{Outcome, value, refused, numberOf}
 use Rattle.algebra.specs.Flat.{tabulate}
 use Rattle.algebra.proofs.Flat.{tabulate-length, tabulate-at}
 use Rattle.texts.proofs.Every.{both-true}
+use Rattle.market.specs.Answers.{Left, answered}
 use Rattle.market.specs.Format.{Market}
-use Rattle.market.specs.Read.{readAnswered, readLeft}
+use Rattle.market.specs.Read.{readLeft}
 use Rattle.market.specs.Text.{textOf, isWritable}
-use Rattle.market.specs.Write.{WriteLeft, page, writeAnswered, writeText, writeLeft}
+use Rattle.market.specs.Write.{page, writeText, writeLeft}
 use Rattle.market.proofs.Fronts.{wrong}
 use Rattle.market.proofs.Refusals.{done}
 use Rattle.market.proofs.Buffers.{write-numbered}
@@ -50,7 +51,7 @@ module _ (w n : ℕ) (a : List Float) where
             ∙ ap (λ (t : Bool). cond t float.zero (getD a j float.zero)) (sym (other-zero w n a positive size good j h e))
 
     -- of the text itself
-    pub text-back : (out : List Float) → n ≤ largest.n → length out ≡ n * n * w → readLeft w (textOf w n a) out ≡ readAnswered (value n) plain
+    pub text-back : (out : List Float) → n ≤ largest.n → length out ≡ n * n * w → readLeft w (textOf w n a) out ≡ answered (value n) plain
     text-back out few room =
         let at : ℕ → Float = λ j. plusZero (getD a j float.zero) in
         read-back w n a positive size good plain out few room (tabulate-length at (n * n * w) 0)
@@ -64,42 +65,42 @@ module _ (w n : ℕ) (a : List Float) where
     pub front : take m left ≡ textOf w n a
 
   says-by : (text left : List ℕ) (m : ℕ) (large lengths can : Bool) → ltb largest.n n ≡ large → (eqb (length a) (n * n * w) && eqb (length text) page) ≡ lengths → isWritable w a ≡ can
-      → cond large (writeAnswered (refused refusal.tooLarge) text) (cond lengths (cond can (writeText (textOf w n a)) (writeAnswered (refused refusal.unwritable) text)) (writeAnswered (refused refusal.wrongLength) text)) ≡ writeAnswered (value m) left
+      → cond large (answered (refused refusal.tooLarge) text) (cond lengths (cond can (writeText (textOf w n a)) (answered (refused refusal.unwritable) text)) (answered (refused refusal.wrongLength) text)) ≡ answered (value m) left
       → Says m left
   unfolding writeText
-  says-by text left m true lengths can p q r e = absurd (wrong refusal.tooLarge m (ap (λ (l : WriteLeft). l .answer) e))
-  says-by text left m false false can p q r e = absurd (wrong refusal.wrongLength m (ap (λ (l : WriteLeft). l .answer) e))
-  says-by text left m false true false p q r e = absurd (wrong refusal.unwritable m (ap (λ (l : WriteLeft). l .answer) e))
+  says-by text left m true lengths can p q r e = absurd (wrong refusal.tooLarge m (ap (λ (l : Left ℕ). l .answer) e))
+  says-by text left m false false can p q r e = absurd (wrong refusal.wrongLength m (ap (λ (l : Left ℕ). l .answer) e))
+  says-by text left m false true false p q r e = absurd (wrong refusal.unwritable m (ap (λ (l : Left ℕ). l .answer) e))
   says-by text left m false true true p q r e = record {
     few = ltb-false largest.n n p;
     size = eqb-true (length a) (n * n * w) (both-true (eqb (length a) (n * n * w)) (eqb (length text) page) q .0);
     good = r;
     front =
-        let v : _≡_ {A = Outcome ℕ} (value (length (textOf w n a))) (value m) = ap (λ (l : WriteLeft). l .answer) e in
+        let v : _≡_ {A = Outcome ℕ} (value (length (textOf w n a))) (value m) = ap (λ (l : Left ℕ). l .answer) e in
         let k : length (textOf w n a) ≡ m = cc in
-        (λ i. take (sym k i) (ap (λ (l : WriteLeft). l .text) (sym e) i)) ∙ take-append-seam (textOf w n a) (replicate (page - length (textOf w n a)) 0);
+        (λ i. take (sym k i) (ap (λ (l : Left ℕ). l .buffer) (sym e) i)) ∙ take-append-seam (textOf w n a) (replicate (page - length (textOf w n a)) 0);
   }
 
-  said : (text left : List ℕ) (m : ℕ) → writeLeft w n a text ≡ writeAnswered (value m) left → Says m left
+  said : (text left : List ℕ) (m : ℕ) → writeLeft w n a text ≡ answered (value m) left → Says m left
   unfolding writeLeft
   said text left m e = says-by text left m (ltb largest.n n) (eqb (length a) (n * n * w) && eqb (length text) page) (isWritable w a) refl refl refl e
 
   -- an answer that has the number 0 tells a length
-  pub told-length : (text : List ℕ) → numberOf (writeLeft w n a text .answer) ≡ 0 → (m : ℕ) × (writeLeft w n a text ≡ writeAnswered (value m) (writeLeft w n a text .text))
+  pub told-length : (text : List ℕ) → numberOf (writeLeft w n a text .answer) ≡ 0 → (m : ℕ) × (writeLeft w n a text ≡ answered (value m) (writeLeft w n a text .buffer))
   told-length text e =
       let left = writeLeft w n a text in
       let told = done (left .answer) (write-numbered w n a text) e in
-      (told .0, ap (λ (o : Outcome ℕ). writeAnswered o (left .text)) (told .1))
+      (told .0, ap (λ (o : Outcome ℕ). answered o (left .buffer)) (told .1))
 
   -- Whatever the writer was lent: if it answers with a length m, the first m bytes that it leaves are a tidy text of the format,
-  pub write-market : (text left : List ℕ) (m : ℕ) → 0 < w → writeLeft w n a text ≡ writeAnswered (value m) left → Market true false n (map backOf (entriesOf w n a)) (take m left)
+  pub write-market : (text left : List ℕ) (m : ℕ) → 0 < w → writeLeft w n a text ≡ answered (value m) left → Market true false n (map backOf (entriesOf w n a)) (take m left)
   write-market text left m positive e =
       let s = said text left m e in
       subst (Market true false n (map backOf (entriesOf w n a))) (sym (s .front)) (written-market w n a positive (s .size) (s .good) (s .few))
 
   -- and are read to the matrix, -0 as +0.
-  pub round-trip : (text left : List ℕ) (m : ℕ) (out : List Float) → 0 < w → ((j : ℕ) → j < n * n * w → T (fits binary64 (getD a j float.zero))) → writeLeft w n a text ≡ writeAnswered (value m) left → length out ≡ n * n * w
-      → readLeft w (take m left) out ≡ readAnswered (value n) plain
+  pub round-trip : (text left : List ℕ) (m : ℕ) (out : List Float) → 0 < w → ((j : ℕ) → j < n * n * w → T (fits binary64 (getD a j float.zero))) → writeLeft w n a text ≡ answered (value m) left → length out ≡ n * n * w
+      → readLeft w (take m left) out ≡ answered (value n) plain
   round-trip text left m out positive machine e room =
       let s = said text left m e in
       ap (λ (t : List ℕ). readLeft w t out) (s .front) ∙ text-back positive (s .size) (s .good) machine out (s .few) room

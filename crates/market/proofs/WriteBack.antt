@@ -19,10 +19,11 @@ use Rattle.texts.specs.Bytes as byte
 use Rattle.texts.specs.Numbers.{decimalText}
 use Rattle.texts.specs.Whole.{worth}
 use Rattle.texts.proofs.Every.{every-true}
+use Rattle.market.specs.Answers.{answered}
 use Rattle.market.specs.Format.{Digits, Short, Entries, Market, header, sign, signed, countOf}
 use Rattle.market.specs.Format.Entries.{none, entry}
 use Rattle.market.specs.Entries.{matrixOf}
-use Rattle.market.specs.Read.{readAnswered, readLeft}
+use Rattle.market.specs.Read.{readLeft}
 use Rattle.market.specs.Text.{isWhole, entryAt, linesOf, textOf, fitsAt, isWritable}
 use Rattle.market.specs.Write.{page, writeText, writeLeft}
 use Rattle.market.proofs.Places.{turned, turned-inside, turned-back, first-rest, first-record, first-inside}
@@ -111,7 +112,7 @@ module _ (w n : ℕ) (numbers : List Float) (t : List ℕ) (positive : 0 < w) (m
       rw (le-ltb largest.n n (market .few), eq-eqb (length matrix) (n * n * w) (matrix-length w false n numbers), eq-eqb (length text) page room, writable-back w n numbers positive (entries-whole (market .entries) numbers (market .listed))) (ap writeText text-same)
 
   -- whatever was lent to either: a tidy text of a general matrix that is read, written again, is that text
-  pub read-then-written : (out left : List Float) (m : ℕ) (text : List ℕ) → readLeft w t out ≡ readAnswered (value m) left → length text ≡ page → writeLeft w m left text ≡ writeText t
+  pub read-then-written : (out left : List Float) (m : ℕ) (text : List ℕ) → readLeft w t out ≡ answered (value m) left → length text ≡ page → writeLeft w m left text ≡ writeText t
   read-then-written out left m text e room =
       let reading = read-market w t out m left e in
       let same = one-reading (reading .symmetric) false m n (reading .numbers) numbers t (reading .market) (tidy-market false n numbers t market) in

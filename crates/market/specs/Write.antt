@@ -8,28 +8,21 @@ use lib.Ieee.{Float}
 use Rattle.refusals.specs.Number as refusal
 use Rattle.refusals.specs.Largest as largest
 use Rattle.algebra.specs.Outcome.{Outcome, value, refused}
+use Rattle.market.specs.Answers.{Left, answered}
 use Rattle.market.specs.Text.{textOf, isWritable}
 
 -- the bytes that the writer is lent
 abbrev pub page : ℕ
 page = 20480
 
--- the answer, and the lent bytes
-pub record WriteLeft : Type 0 where
-  pub answer : Outcome ℕ
-  pub text : List ℕ
-
-abbrev pub writeAnswered : Outcome ℕ → List ℕ → WriteLeft
-writeAnswered r text = record { answer = r; text = text }
-
 -- the text, its length told, and zeros to the end of the lent bytes
-unfoldable pub writeText : List ℕ → WriteLeft
-writeText t = writeAnswered (value (length t)) (t ++ replicate (page - length t) 0)
+unfoldable pub writeText : List ℕ → Left ℕ
+writeText t = answered (value (length t)) (t ++ replicate (page - length t) 0)
 
 -- write(n, a, text), w floats a record: 1, 2, 20
-unfoldable pub writeLeft : ℕ → ℕ → List Float → List ℕ → WriteLeft
+unfoldable pub writeLeft : ℕ → ℕ → List Float → List ℕ → Left ℕ
 writeLeft w n a text =
-    cond (ltb largest.n n) (writeAnswered (refused refusal.tooLarge) text)
+    cond (ltb largest.n n) (answered (refused refusal.tooLarge) text)
     (cond (eqb (length a) (n * n * w) && eqb (length text) page)
-    (cond (isWritable w a) (writeText (textOf w n a)) (writeAnswered (refused refusal.unwritable) text))
-    (writeAnswered (refused refusal.wrongLength) text))
+    (cond (isWritable w a) (writeText (textOf w n a)) (answered (refused refusal.unwritable) text))
+    (answered (refused refusal.wrongLength) text))

@@ -7,10 +7,10 @@ ghost use lib.ListN.{length, drop, getD};
 ghost use Rattle.real.specs.Operations.{zero};
 ghost use Rattle.refusals.specs.Largest as largest;
 ghost use Rattle.matrices.specs.Matrix.{Square};
-ghost use Rattle.market.specs.Answers.{marketOutcome};
+ghost use Rattle.market.specs.Answers.{marketOutcome, answered};
 ghost use Rattle.market.specs.Format.{countOf};
 ghost use Rattle.market.specs.Entries.{lowerPlace, placeOf, matrixOf};
-ghost use Rattle.market.specs.Read.{readAnswered, readBody};
+ghost use Rattle.market.specs.Read.{readBody};
 ghost use Rattle.market_reader.specs.Told.{PlacedUpTo};
 
 // How many entries there are.
@@ -95,7 +95,7 @@ fn placed(
     requires { ⌜ start ≤ length (now text) ⌝ }
     requires { ⌜ length (now numbers) ≡ countOf symmetric n ⌝ }
     requires { ⌜ Square width n (now out) ⌝ }
-    ensures { λ r. ⌜ readAnswered (marketOutcome r) (now (out .exit)) ≡ readBody width (now (out .entry)) symmetric n (drop start (now (text .entry))) ⌝ }
+    ensures { λ r. ⌜ answered (marketOutcome r) (now (out .exit)) ≡ readBody width (now (out .entry)) symmetric n (drop start (now (text .entry))) ⌝ }
 {
     let number = entries::all(text, start, numbers);
     if number != 0 {
@@ -115,7 +115,7 @@ pub(crate) fn body(
     out: &mut [f64],
 ) -> MarketAnswer
     requires { ⌜ (start ≤ length (now text)) × (n ≤ largest.n) × (0 < width) × (width ≤ largest.width) ⌝ }
-    ensures { λ r. ⌜ readAnswered (marketOutcome r) (now (out .exit)) ≡ readBody width (now (out .entry)) symmetric n (drop start (now (text .entry))) ⌝ }
+    ensures { λ r. ⌜ answered (marketOutcome r) (now (out .exit)) ≡ readBody width (now (out .entry)) symmetric n (drop start (now (text .entry))) ⌝ }
 {
     if out.len() != n * n * width {
         return MarketAnswer::Refused {

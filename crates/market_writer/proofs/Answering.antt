@@ -15,9 +15,10 @@ use Rattle.algebra.specs.Outcome.{value, refused}
 use Rattle.texts.specs.Page.{Page, page, written}
 use Rattle.texts.proofs.Page.{written-length, written-fits}
 use Rattle.matrices.specs.Matrix.{Square}
+use Rattle.market.specs.Answers.{answered}
 use Rattle.market.specs.Text.{textOf, isWritable}
 use Rattle.market.specs.Write as Write
-use Rattle.market.specs.Write.{writeAnswered, writeText, writeLeft}
+use Rattle.market.specs.Write.{writeText, writeLeft}
 use Rattle.market.proofs.Length.{text-short}
 
 -- ---- zeros after the text
@@ -70,22 +71,22 @@ full-fits n w h g =
     omega arith
 
 module _ (w n : ℕ) (a : List Float) (out : List ℕ) where
-  pub write-large : largest.n < n → writeAnswered (refused refusal.tooLarge) out ≡ writeLeft w n a out
+  pub write-large : largest.n < n → answered (refused refusal.tooLarge) out ≡ writeLeft w n a out
   unfolding writeLeft
   write-large h = rw (lt-ltb largest.n n h)
 
   module _ (few : n ≤ largest.n) where
-    pub write-floats : (length a ≡ n * n * w → ⊥) → writeAnswered (refused refusal.wrongLength) out ≡ writeLeft w n a out
+    pub write-floats : (length a ≡ n * n * w → ⊥) → answered (refused refusal.wrongLength) out ≡ writeLeft w n a out
     unfolding writeLeft
     write-floats h = rw (le-ltb largest.n n few, ne-eqb (length a) (n * n * w) h)
 
     module _ (size : length a ≡ n * n * w) where
-      pub write-bytes : (length out ≡ Write.page → ⊥) → writeAnswered (refused refusal.wrongLength) out ≡ writeLeft w n a out
+      pub write-bytes : (length out ≡ Write.page → ⊥) → answered (refused refusal.wrongLength) out ≡ writeLeft w n a out
       unfolding writeLeft
       write-bytes h = rw (le-ltb largest.n n few, eq-eqb (length a) (n * n * w) size, ne-eqb (length out) Write.page h)
 
       module _ (room : length out ≡ Write.page) (t : Bool) (told : t ≡ isWritable w a) where
-        pub write-not : t ≡ false → writeAnswered (refused refusal.unwritable) out ≡ writeLeft w n a out
+        pub write-not : t ≡ false → answered (refused refusal.unwritable) out ≡ writeLeft w n a out
         unfolding writeLeft
         write-not e = rw (le-ltb largest.n n few, eq-eqb (length a) (n * n * w) size, eq-eqb (length out) Write.page room, sym told ∙ e)
 
@@ -115,11 +116,11 @@ module _ (w n : ℕ) (a : List Float) (out : List ℕ) where
           pub end-inside : end ≤ length m
           end-inside = let h : length (textOf w n a) ≤ Write.page = text-short w n a few in omega (arith, end-is, long)
 
-          pub write-done : (left : List ℕ) → t ≡ true → left ≡ take end m ++ replicate (length m - end) 0 → writeAnswered (value end) left ≡ writeLeft w n a out
+          pub write-done : (left : List ℕ) → t ≡ true → left ≡ take end m ++ replicate (length m - end) 0 → answered (value end) left ≡ writeLeft w n a out
           unfolding writeText
           write-done left yes-it-is g =
-              (λ i. writeAnswered (value (end-is i)) (g i))
-              ∙ (λ i. writeAnswered (value (length (textOf w n a))) (front i ++ replicate (long i - end-is i) 0))
+              (λ i. answered (value (end-is i)) (g i))
+              ∙ (λ i. answered (value (length (textOf w n a))) (front i ++ replicate (long i - end-is i) 0))
               ∙ write-does yes-it-is
 
 -- the matrix is square

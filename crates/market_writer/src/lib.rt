@@ -8,8 +8,8 @@ ghost use mathlib.Core.List.{_++_};
 ghost use Prim.Native.Nat.{_-_, _<_, _≤_};
 ghost use lib.ListN.{length, take, replicate};
 ghost use Rattle.refusals.specs.Largest as largest;
-ghost use Rattle.market.specs.Answers.{marketOutcome};
-ghost use Rattle.market.specs.Write.{writeAnswered, writeLeft};
+ghost use Rattle.market.specs.Answers.{marketOutcome, answered};
+ghost use Rattle.market.specs.Write.{writeLeft};
 
 // The magnitude of a whole number.
 pub(crate) enum Whole {
@@ -32,7 +32,7 @@ fn zeros(out: &mut [u8], at: usize)
 // The text of a matrix whose records are `width` floats wide, zeros after it.
 fn write_wide(n: usize, a: &[f64], width: usize, text: &mut [u8]) -> MarketAnswer
     requires { ⌜ (0 < width) × (width ≤ largest.width) ⌝ }
-    ensures { λ r. ⌜ writeAnswered (marketOutcome r) (now (text .exit)) ≡ writeLeft width n (now (a .entry)) (now (text .entry)) ⌝ }
+    ensures { λ r. ⌜ answered (marketOutcome r) (now (text .exit)) ≡ writeLeft width n (now (a .entry)) (now (text .entry)) ⌝ }
 {
     if refusals::LARGEST_N < n {
         return MarketAnswer::Refused {
@@ -61,14 +61,14 @@ fn write_wide(n: usize, a: &[f64], width: usize, text: &mut [u8]) -> MarketAnswe
 
 // A matrix of `Dual` records as a `general` text at the start of 20,480 bytes, zeros after it; its length. A refusal writes nothing.
 pub fn write(n: usize, a: &[f64], text: &mut [u8]) -> MarketAnswer
-    ensures { λ r. ⌜ writeAnswered (marketOutcome r) (now (text .exit)) ≡ writeLeft 2 n (now (a .entry)) (now (text .entry)) ⌝ }
+    ensures { λ r. ⌜ answered (marketOutcome r) (now (text .exit)) ≡ writeLeft 2 n (now (a .entry)) (now (text .entry)) ⌝ }
 {
     write_wide(n, a, 2, text)
 }
 
 // The same of a matrix of `HyperDual` records.
 pub fn write_hyperdual(n: usize, a: &[f64], text: &mut [u8]) -> MarketAnswer
-    ensures { λ r. ⌜ writeAnswered (marketOutcome r) (now (text .exit)) ≡ writeLeft 4 n (now (a .entry)) (now (text .entry)) ⌝ }
+    ensures { λ r. ⌜ answered (marketOutcome r) (now (text .exit)) ≡ writeLeft 4 n (now (a .entry)) (now (text .entry)) ⌝ }
 {
     write_wide(n, a, 4, text)
 }
