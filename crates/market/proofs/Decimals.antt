@@ -26,12 +26,12 @@ pub digits-after : (b : ℕ) (l : List ℕ) → AllDigits (b ∷ l) → AllDigit
 digits-after b l d j h = d (suc j) (omega arith)
 
 -- ---- digits in front of a text
-worth-more : (l r : List ℕ) (v : ℕ) → AllDigits l → worth v (l ++ r) ≡ worth (worth v l) r
+pub worth-more : (l r : List ℕ) (v : ℕ) → AllDigits l → worth v (l ++ r) ≡ worth (worth v l) r
 unfolding worth
 worth-more [] r v d = refl
 worth-more (b ∷ l) r v d = rw (d 0 (omega arith)) (worth-more l r (v * 10 + digitValue b) (digits-after b l d))
 
-past-more : (l r : List ℕ) → AllDigits l → past (l ++ r) ≡ past r
+pub past-more : (l r : List ℕ) → AllDigits l → past (l ++ r) ≡ past r
 unfolding past
 past-more [] r d = refl
 past-more (b ∷ l) r d = rw (d 0 (omega arith)) (past-more l r (digits-after b l d))

@@ -21,13 +21,13 @@ use Rattle.market.proofs.Fronts.{wrong, taken, spared, first-split, fro
 use Rattle.market.proofs.ReadsFormat.{untidy}
 
 -- the entry x, and the text after it, are what the text l begins with
-record Entered (l : List ℕ) (x : Line) : Type 0 where
-  minus : Bool
-  digits : List ℕ
-  lines : l ≡ sign minus ++ (digits ++ (byte.newline ∷ x .rest))
-  all : Digits digits
-  small : worth 0 digits ≤ largest.whole
-  number : signed minus (worth 0 digits) ≡ x .number
+pub record Entered (l : List ℕ) (x : Line) : Type 0 where
+  pub minus : Bool
+  pub digits : List ℕ
+  pub lines : l ≡ sign minus ++ (digits ++ (byte.newline ∷ x .rest))
+  pub all : Digits digits
+  pub small : worth 0 digits ≤ largest.whole
+  pub number : signed minus (worth 0 digits) ≡ x .number
 
 magnitude-split : (minus : Bool) (l : List ℕ) (x : Line) → magnitudeLine minus l ≡ value x → Entered (sign minus ++ l) x
 unfolding magnitudeLine
@@ -48,7 +48,7 @@ magnitude-split minus l x e =
       number = ap (signed minus) (front-worth l 0) ∙ ap (λ (p : Line). p .number) same;
     }
 
-entry-split : (l : List ℕ) (x : Line) → entryOf l ≡ value x → Entered l x
+pub entry-split : (l : List ℕ) (x : Line) → entryOf l ≡ value x → Entered l x
 unfolding entryOf
 entry-split l x e = by (eqb (byteAt l 0) byte.minus) refl e
   where
@@ -66,7 +66,7 @@ unfolding numbersOf
 listed-none [] numbers e = subst (Listed 0 []) (let z : [] ≡ numbers = cc in z) (record { listed = none; count = refl })
 listed-none (b ∷ l) numbers e = absurd (let z = eqb-true (length (b ∷ l)) 0 (taken refusal.wrongEntries numbers (isOver (b ∷ l)) (value []) e .0) in omega arith)
 
-listed-more : (k : ℕ) (l : List ℕ) (x : Line) (others : List Float) → Entered l x → Listed k (x .rest) others → Listed (suc k) l (x .number ∷ others)
+pub listed-more : (k : ℕ) (l : List ℕ) (x : Line) (others : List Float) → Entered l x → Listed k (x .rest) others → Listed (suc k) l (x .number ∷ others)
 listed-more k l x others entered more = record {
   listed =
       subst (λ (t : List ℕ). Entries false t (x .number ∷ others)) (sym (entered .lines))

@@ -56,7 +56,7 @@ unfoldable pub front : List ℕ → List ℕ
 front [] = []
 front (b ∷ l) = cond (isDigit 10 b) (b ∷ front l) []
 
-front-past : (l : List ℕ) → l ≡ front l ++ past l
+pub front-past : (l : List ℕ) → l ≡ front l ++ past l
 unfolding front past
 front-past [] = refl
 front-past (b ∷ l) = by (isDigit 10 b) (front-past l)
@@ -74,7 +74,7 @@ front-worth (b ∷ l) v = by (isDigit 10 b) refl (front-worth l (v * 10 + digitV
     by true e more = rw e more
     by false e more = refl
 
-front-digits : (l : List ℕ) → AllDigits (front l)
+pub front-digits : (l : List ℕ) → AllDigits (front l)
 unfolding front
 front-digits [] = λ j h. absurd (omega arith)
 front-digits (b ∷ l) = by (isDigit 10 b) refl (front-digits l)

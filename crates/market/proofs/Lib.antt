@@ -14,6 +14,7 @@ pub mod Fronts
 pub mod HeadTaken
 pub mod EntriesTaken
 pub mod FormatRead
+pub mod WrongEntries
 -- what the number 0 says, and what a call leaves beside its answer
 pub mod Refusals
 pub mod Buffers

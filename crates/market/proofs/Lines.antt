@@ -23,7 +23,7 @@ use Rattle.market.specs.Text.{numberLine, linesOf, sizeText, textOf}
 use Rattle.market.proofs.Decimals.{first-digit, worth-read, past-read, space-ends, newline-ends}
 
 -- a digit is none of the other bytes
-digit-other : (b c : ℕ) → isDigit 10 b ≡ true → isDigit 10 c ≡ false → eqb b c ≡ false
+pub digit-other : (b c : ℕ) → isDigit 10 b ≡ true → isDigit 10 c ≡ false → eqb b c ≡ false
 digit-other b c d e = ne-eqb b c (λ q. true≢false (sym d ∙ ap (isDigit 10) q ∙ e))
 
 -- ---- the size line

@@ -77,6 +77,24 @@ pub record Market (tidy symmetric : Bool) (n : ℕ) (numbers : List Float) (text
   pub few : n ≤ largest.n
   pub fits : length text ≤ largest.market
 
+-- a text that ends before so many entries do: with something more it would be they
+pub record CutShort (k : ℕ) (text : List ℕ) : Type 0 where
+  pub more : List ℕ
+  pub numbers : List Float
+  pub some : 0 < length more
+  pub listed : Entries false (text ++ more) numbers
+  pub count : length numbers ≡ k
+
+-- a text that goes on after so many entries
+pub record GoesOn (k : ℕ) (text : List ℕ) : Type 0 where
+  pub entries : List ℕ
+  pub rest : List ℕ
+  pub numbers : List Float
+  pub parts : text ≡ entries ++ rest
+  pub some : 0 < length rest
+  pub listed : Entries false entries numbers
+  pub count : length numbers ≡ k
+
 -- so many entries of column c, from row r on
 unfoldable pub columnFrom : (ℕ → ℕ → Float) → ℕ → ℕ → ℕ → List Float
 columnFrom at c r zero = []
