@@ -8,10 +8,9 @@ pub mod Nan
 pub mod SignBit
 -- the square root
 mod Squares
-mod Newton
-mod OneDivision
+mod BitByBit
+mod Differences
 mod Rounded
-mod Bounds
 mod NearUnits
 mod Patterns
 mod Ends

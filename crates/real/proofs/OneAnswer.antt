@@ -3,6 +3,8 @@ use mathlib.Core.Path.{refl, sym, _∙_}
 use Rattle.real.proofs.Only.{Only}
 use Rattle.real.proofs.sqrt.Kinds as sqrt-k
 use Rattle.real.proofs.sqrt.Reads as sqrt
+use Rattle.real.proofs.root.next_bit.Kinds as next-bit-k
+use Rattle.real.proofs.root.next_bit.Reads as next-bit
 use Rattle.real.proofs.is_negative.Kinds as is-negative-k
 use Rattle.real.proofs.is_negative.Reads as is-negative
 use Rattle.real.proofs.abs.Kinds as abs-k
@@ -14,6 +16,9 @@ use Rattle.real.proofs.word_of_float.Reads as word-of-float
 
 pub sqrt-only : Only 0 sqrt-k.ps sqrt-k.r sqrt.Pre sqrt.Post
 sqrt-only κs a x y v w h p q = (p ∙ sym q, refl)
+
+pub next-bit-only : Only 0 next-bit-k.ps next-bit-k.r next-bit.Pre next-bit.Post
+next-bit-only κs a x y v w h p q = ((λ i. record { twice = (p .0 ∙ sym (q .0)) i; rest = (p .1 ∙ sym (q .1)) i; bit = (p .2 ∙ sym (q .2)) i }), refl)
 
 pub is-negative-only : Only 0 is-negative-k.ps is-negative-k.r is-negative.Pre is-negative.Post
 is-negative-only κs a x y v w h p q = (p ∙ sym q, refl)

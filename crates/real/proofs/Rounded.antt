@@ -2,7 +2,7 @@
 use mathlib.Core.Path.{_≡_, subst}
 use mathlib.Core.Logic.{inl, inr}
 use Prim.Native.Nat.{ℕ, zero, suc, _+_, _*_, _^_, _≤_, _<_}
-use native.Mathlib.Nat.{eq-or-lt-of-le, mul-le-mul, le-refl, lt-of-not-le}
+use native.Mathlib.Nat.{eq-or-lt-of-le}
 use native.Mathlib.Omega.{arith}
 use Rattle.real.proofs.Squares.{square-suc}
 
@@ -31,10 +31,3 @@ no-carry a q rest e h l k = elim (eq-or-lt-of-le l) [
 
     below : suc q < 2 ^ 53 → q + 1 < 2 ^ 53
     below g = omega arith
-
--- nor has any whole number nearest to the root
-pub nearest-short : (a r : ℕ) → r * r < a * 2 ^ 52 + r → a + 1 < 2 ^ 54 → r < 2 ^ 53
-nearest-short a r h k = lt-of-not-le (long (a * 2 ^ 52) (omega arith) h)
-  where
-    long : (n : ℕ) → n ≤ 18014398509481982 * 2 ^ 52 → r * r < n + r → 2 ^ 53 ≤ r → ⊥
-    long n l m g = let square : r * 9007199254740992 ≤ r * r = mul-le-mul (le-refl r) g in omega arith

@@ -2,4 +2,5 @@
 pub mod Operations
 pub mod Sign
 pub mod Root
+pub mod Bits
 pub mod Nearest

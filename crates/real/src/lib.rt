@@ -1,6 +1,5 @@
 // What the Rust takes from f64 itself: the square root, the magnitude, the sign bit, and floats by their words.
-mod guess;
-mod root;
+pub mod root;
 
 ghost use mathlib.Core.Path.{_≡_};
 ghost use lib.Ieee.{binary64, ofBits, toBits};

@@ -1,66 +1,69 @@
-// The inside of the square root, over whole numbers: 64-bit arithmetic only.
-use crate::guess;
+// The inside of the square root, over whole numbers: one bit of the root at a time, from the top. docs/ROOT.md tells it with an example.
 ghost use mathlib.Core.Path.{_≡_};
 ghost use mathlib.Core.Bool.{false, not};
-ghost use Prim.Native.Nat.{_+_, _*_, _%_, _^_, _≤_, _<_};
+ghost use Prim.Native.Nat.{_+_, _*_, _/_, _%_, _^_, _≤_, _<_};
 ghost use lib.Dec.{T};
 ghost use lib.Ieee.{binary64, ofBits, nanBits};
 ghost use lib.Ieee.Exact.{HasValue};
+ghost use Rattle.real.specs.Bits.{twiceNext, restNext};
 ghost use Rattle.real.specs.Root.{sqrtOf};
 
 // The weight of an f64's leading digit, and of its exponent's field.
 const HIDDEN: u64 = 0x10_0000_0000_0000;
 
-// Half a unit of what `last_step` divides, and 1/256 of one, as the guess is a little low.
-const HALF: u64 = 0x40_8000_0000;
-
 // The pattern of +infinity: the patterns of the positive finite floats lie between 0 and it.
 pub(crate) const INFINITY: u64 = 0x7ff0_0000_0000_0000;
 
-// Where Newton's iteration starts: the root of 2^53, midway between 2^52 and 2^54.
-const MIDDLE: u64 = 0x5a8_279a;
+// How far a root is found: twice the root so far; what its square leaves, counted in the last bit found; the weight of the bit to find next, 0 after the last.
+pub struct Found {
+    pub twice: u64,
+    pub rest: u64,
+    pub bit: u64,
+}
+
+// One bit more. With it the root's square would grow by trial * bit: where that is more than is left, below zero, the bit is none of the root's.
+// The rest is counted in this bit from here on, so it doubles.
+pub fn next_bit(found: Found) -> Found
+    requires { ⌜ (found .rest < 2 ^ 62) × (found .twice + 2 * found .bit < 2 ^ 63) ⌝ }
+    ensures { λ r. ⌜ (r .twice ≡ twiceNext (found .twice) (found .rest) (found .bit)) × (r .rest ≡ restNext (found .twice) (found .rest) (found .bit)) × (r .bit ≡ found .bit / 2) ⌝ }
+{
+    let rest = 2 * found.rest;
+    let trial = found.twice + found.bit;
+    let left = rest as i64 - trial as i64;
+    let below = left < 0;
+    Found {
+        twice: if below {
+            found.twice
+        } else {
+            trial + found.bit
+        },
+        rest: if below { rest } else { left as u64 },
+        bit: found.bit / 2,
+    }
+}
 
 // A whole root, and what its square leaves.
 pub(crate) struct Whole {
-    pub q: u64,
+    pub root: u64,
     pub rest: u64,
 }
 
-// The whole root of a, by Newton's iteration: a step from any s ends at the root or above it, and from above it goes down.
-pub(crate) fn newton(a: u64) -> u64
-    requires { ⌜ a < 2 ^ 54 ⌝ }
-    ensures { λ s. ⌜ (s * s ≤ a) × (a < (s + 1) * (s + 1)) ⌝ }
-{
-    let mut s = (MIDDLE + a / MIDDLE) / 2;
-    while a < s * s {
-        s = (s + a / s) / 2;
-    }
-    s
-}
-
-// The whole root of a * 2^52, with what its square leaves: the root s of a gives the upper half, and one division by 2 * s
-// the lower half q, which can be one too large. The one function to replace for another way to the root.
+// The whole root of a * 2^52. Its leading bit is known, the other 52 are found one at a time, from the top.
 pub(crate) fn whole_root(a: u64) -> Whole
     requires { ⌜ (2 ^ 52 ≤ a) × (a < 2 ^ 54) ⌝ }
-    ensures { λ w. ⌜ (w .q * w .q + w .rest ≡ a * 2 ^ 52) × (w .rest ≤ 2 * w .q) × (w .q < 2 ^ 53) ⌝ }
+    ensures { λ w. ⌜ (w .root * w .root + w .rest ≡ a * 2 ^ 52) × (w .rest ≤ 2 * w .root) × (w .root < 2 ^ 53) ⌝ }
 {
-    let s = newton(a);
-    let left = (a - s * s) * 0x400_0000;
-    let twice = 2 * s;
-    let q = left / twice;
-    let over = left % twice * 0x400_0000;
-    let square = q * q;
-    let root = s * 0x400_0000 + q;
-    if square <= over {
-        Whole {
-            q: root,
-            rest: over - square,
-        }
-    } else {
-        Whole {
-            q: root - 1,
-            rest: 2 * root - 1 - (square - over),
-        }
+    let mut found = Found {
+        twice: 2 * HIDDEN,
+        rest: a - HIDDEN,
+        bit: HIDDEN / 2,
+    };
+    while 0 < found.bit {
+        found = next_bit(found);
+    }
+    Whole {
+        root: found.twice / 2,
+        rest: found.rest,
     }
 }
 
@@ -70,66 +73,7 @@ pub(crate) fn rounded_root(a: u64) -> u64
     ensures { λ r. ⌜ (r * r < a * 2 ^ 52 + r) × (a * 2 ^ 52 ≤ r * r + r) × (r < 2 ^ 53) ⌝ }
 {
     let w = whole_root(a);
-    if w.q < w.rest { w.q + 1 } else { w.q }
-}
-
-// r = s * 2^22 + q, where that is the whole number nearest to the root of (s * s + left) * 2^44, else 0. What r * r leaves,
-// (left * 2^21 - s * q) * 2^23 - q * q, must lie above -r and be at most r; s * 2^23 = 2 * r - 2 * q is added, so that nothing is below zero.
-pub(crate) fn settled(s: u64, left: u64, q: u64) -> u64
-    requires { ⌜ (s < 2 ^ 31) × (left < 2 ^ 34) × (q < 2 ^ 26) ⌝ }
-    ensures { λ r. ⌜ (0 < r → (r * r < (s * s + left) * 2 ^ 44 + r) × ((s * s + left) * 2 ^ 44 ≤ r * r + r)) ⌝ }
-{
-    let full = left * 0x20_0000 + s;
-    let taken = s * q;
-    if full < taken {
-        return 0;
-    }
-    let gap = full - taken;
-    if 0x2_0000_0000 <= gap {
-        return 0;
-    }
-    let room = gap * 0x80_0000 + 2 * q;
-    let square = q * q;
-    let r = s * 0x40_0000 + q;
-    if room <= square + r {
-        return 0;
-    }
-    if square + 3 * r < room {
-        return 0;
-    }
-    r
-}
-
-// The whole number nearest to the root of a * 2^52, from a guess at the root of a * 2^8 and its inverse; 0 where the guess is not good enough.
-pub(crate) fn last_step(a: u64, s: u64, y: u64) -> u64
-    requires { ⌜ a < 2 ^ 54 ⌝ }
-    ensures { λ r. ⌜ (0 < r → (r * r < a * 2 ^ 52 + r) × (a * 2 ^ 52 ≤ r * r + r)) ⌝ }
-{
-    if 0x8000_0000 <= s {
-        return 0;
-    }
-    if 0x4000_0000 <= y {
-        return 0;
-    }
-    let top = a * 256;
-    let square = s * s;
-    if top < square {
-        return 0;
-    }
-    let left = top - square;
-    if 0x3_ff00_0000 <= left {
-        return 0;
-    }
-    settled(s, left, (left * y + HALF) / 0x80_0000_0000)
-}
-
-// The same from any guess: where it is not good enough, for about 6 of 1,000 normal floats, by `rounded_root`, which would do in its place.
-pub(crate) fn nearest_root(a: u64, near: guess::Guess) -> u64
-    requires { ⌜ (2 ^ 52 ≤ a) × (a + 1 < 2 ^ 54) ⌝ }
-    ensures { λ r. ⌜ (r * r < a * 2 ^ 52 + r) × (a * 2 ^ 52 ≤ r * r + r) × (r < 2 ^ 53) ⌝ }
-{
-    let r = last_step(a, near.root, near.inverse);
-    if r == 0 { rounded_root(a) } else { r }
+    if w.root < w.rest { w.root + 1 } else { w.root }
 }
 
 // A number a * 2^(e - 1126) whose a has 53 digits.
@@ -167,14 +111,12 @@ pub(crate) fn even(a: u64, e: u64) -> u64
     if e % 2 == 0 { a } else { 2 * a }
 }
 
-// The pattern of the root of a positive finite float, from the float's. The guess takes the digits after the leading one from the pattern itself, which is soonest; a subnormal
-// float has them elsewhere, so its guess is seldom good enough (that of 2^-1074 is).
+// The pattern of the root of a positive finite float, from the float's.
 pub(crate) fn root_bits(b: u64) -> u64
     requires { ⌜ (0 < b) × (b < 0x7ff0_0000_0000_0000) ⌝ }
     ensures { λ r. ⌜ T (not (nanBits binary64 r)) × (ofBits binary64 r ≡ sqrtOf (ofBits binary64 b)) ⌝ }
 {
     let s = scale(b);
-    let a = even(s.a, s.e);
-    let r = nearest_root(a, guess::guess_of(b / 0x10_0000 % 0x1_0000_0000, s.e % 2));
+    let r = rounded_root(even(s.a, s.e));
     (485 + s.e / 2) * HIDDEN + r
 }

@@ -11,7 +11,7 @@ returns : tie.Need-returns
 returns c =
     let at = c .before .before .before in
     let a = at .before .args .a in
-    let q = at .whole-root .result .q in
+    let q = at .whole-root .result .root in
     let rest = at .whole-root .result .rest in
     let w = at .whole-root .ensures in
     let up : q < rest = omega arith in
@@ -24,7 +24,7 @@ returns-2 : tie.Need-returns-2
 returns-2 c =
     let at = c .before .before in
     let a = at .before .args .a in
-    let q = at .whole-root .result .q in
+    let q = at .whole-root .result .root in
     let rest = at .whole-root .result .rest in
     let w = at .whole-root .ensures in
     let m = stays (a * 2 ^ 52) q rest (w .0) (omega arith) (omega arith) in

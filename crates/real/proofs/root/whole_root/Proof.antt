@@ -1,46 +1,50 @@
--- Newton's root of the upper half and one division give the root of the whole, or one more than it. Assumes nothing.
+-- The loop keeps the root so far, what its square leaves, and the digits still to come. Assumes nothing.
 use borrow.Author.Needs.{needs}
-use Prim.Native.Nat.{_*_, _/_, _%_, _-_}
+use Prim.Native.Nat.{_*_, _^_}
 use native.Mathlib.Omega.{arith}
-use Rattle.real.proofs.OneDivision.{Halves, halves, fits-root, one-off}
+use mathlib.Core.Path.{_≡_, sym}
+use Rattle.real.proofs.BitByBit.{Kept, start, within, again, ended}
 use Rattle.real.proofs.root.whole_root.Statement.{statement}
 use Rattle.real.proofs.root.whole_root.Tie as tie
-use Rattle.real.proofs.root.whole_root.Reads as reads
-use Rattle.real.proofs.root.whole_root.Lts as lts
-use Rattle.real.proofs.root.newton.Reads as newton-reads
 
--- what is known after the call
-abbrev At : (c : lts.After-newton (newton-reads.Asked, newton-reads.Learnt) reads.Pre reads.Post) → Type 0
-At c = let a = c .before .args .a in let s = c .newton .result in Halves a s (a - s * s) ((a - s * s) * 67108864 / (2 * s)) ((a - s * s) * 67108864 % (2 * s))
+abbrev Inv-loop : tie.InvT-loop
+Inv-loop a found₀ found = Kept (a * 2 ^ 52) (found .twice) (found .rest) (found .bit)
 
-at : (c : lts.After-newton (newton-reads.Asked, newton-reads.Learnt) reads.Pre reads.Post) → At c
-at c = halves (c .before .args .a) (c .newton .result) (c .before .pre .0) (c .before .pre .1) (c .newton .ensures .0) (c .newton .ensures .1)
+abbrev μ-loop : tie.MeasureT-loop
+μ-loop a found₀ found = found .bit
 
--- the quotient's square fits: it is the root
-returns : tie.Need-returns
-returns c = fits-root (c .before .before .args .a) (c .before .newton .result) _ _ _ (c .before .before .pre .1) (at (c .before)) (c .if1 .taken)
+loop-holds : tie.Need-loop-holds Inv-loop μ-loop
+loop-holds c = start (c .args .a) (c .pre .0) (c .pre .1)
 
--- it does not: the root is one less
-returns-2 : tie.Need-returns-2
-returns-2 c = one-off (c .before .before .args .a) (c .before .newton .result) _ _ _ (c .before .before .pre .1) (at (c .before)) (c .if1 .left)
+-- nothing overflows
+next-bit-requires : tie.Need-next-bit-requires Inv-loop μ-loop
+next-bit-requires c κs = let some = c .if1 .taken in within _ _ _ _ (c .before .before .loop .inv) (omega arith)
+
+-- the next bit's weight is half of this one's
+loop-less : tie.Need-loop-less Inv-loop μ-loop
+loop-less c = let bit = c .next-bit .ensures .2 in let some = c .before .if1 .taken in omega arith
+
+-- one bit more
+loop-again : tie.Need-loop-again Inv-loop μ-loop
+loop-again c =
+    let next = c .next-bit .ensures in
+    let some = c .before .if1 .taken in
+    rw (next .0, next .1, next .2) (again _ _ _ _ (c .before .before .before .loop .inv) (omega arith))
+
+-- no digit is left
+returns : tie.Need-returns Inv-loop μ-loop
+returns c = let none = c .before .if1 .left in ended _ _ _ _ (c .before .before .before .loop .inv) (omega arith)
 
 pub whole-root-spec : {M : Type 1} → statement M
 whole-root-spec =
     tie.close
     (tie.spec
-    (λ c κs. search needs) (λ c. search needs) (λ c. search needs)
-    (λ c. let f = at c in omega arith)
-    (λ c. let f = at c in omega arith)
-    (λ c. let f = at c in omega arith)
-    (λ c. let f = at c in omega arith)
-    (λ c. let f = at c in omega arith)
-    (λ c. let f = at c in omega arith)
-    (λ c. let f = at c in omega arith)
-    (λ c. let f = at c in omega arith)
-    (λ c. let f = at (c .before) in omega arith)
-    (λ c. let f = at (c .before) in omega arith)
-    (λ c. let f = at (c .before) in omega arith)
+    Inv-loop
+    μ-loop
     (λ c. search needs)
-    (λ c. let f = at (c .before) in omega arith)
-    returns
-    returns-2)
+    (λ c. search needs)
+    loop-holds
+    next-bit-requires
+    loop-less
+    loop-again
+    returns)
