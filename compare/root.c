@@ -87,13 +87,26 @@ static int by_size(const void *a, const void *b) {
 enum { NUMBERS = 1 << 16, RUNS = 31 };
 static double numbers[NUMBERS];
 
+/* The roots of all numbers, none of which waits for another. */
+static double side_by_side(double (*root)(double)) {
+    double sum = 0;
+    for (int i = 0; i < NUMBERS; i++) sum += root(numbers[i]);
+    return sum;
+}
+
+/* Each is the root of a number that the one before is added to, so it waits for that. */
+static double in_turn(double (*root)(double)) {
+    double last = 1;
+    for (int i = 0; i < NUMBERS; i++) last = root(numbers[i] + last);
+    return last;
+}
+
 /* The median time of one root over RUNS runs, in nanoseconds. */
-static double nanoseconds(double (*root)(double)) {
+static double nanoseconds(double (*all)(double (*)(double)), double (*root)(double)) {
     static double times[RUNS];
     volatile double sink = 0;
     for (int run = 0; run < RUNS; run++) {
-        double start = seconds(), sum = 0;
-        for (int i = 0; i < NUMBERS; i++) sum += root(numbers[i]);
+        double start = seconds(), sum = all(root);
         times[run] = (seconds() - start) * 1e9 / NUMBERS;
         sink += sum;
     }
@@ -103,12 +116,18 @@ static double nanoseconds(double (*root)(double)) {
 
 static double machine_sqrt(double x) { return sqrt(x); }
 
+static void time_both(const char *name, double (*all)(double (*)(double))) {
+    double (*volatile machine)(double) = machine_sqrt;
+    double ours = nanoseconds(all, evindrast_sqrt), theirs = nanoseconds(all, machine);
+    printf("%-36s %6.1f ns a root, the machine's %5.1f ns: ratio %.1f\n", name, ours, theirs, ours / theirs);
+}
+
 int main(void) {
     compare_all();
     printf("%" PRIu64 " compared, %" PRIu64 " different\n", tried, different);
     for (int i = 0; i < NUMBERS; i++) numbers[i] = float_of((random_word() >> 2) | 0x3000000000000000u);
-    double (*volatile machine)(double) = machine_sqrt;
-    double ours = nanoseconds(evindrast_sqrt), theirs = nanoseconds(machine);
-    printf("%.1f ns a root, the machine's %.1f ns: ratio %.1f\n", ours, theirs, ours / theirs);
+    time_both("none waits for another", side_by_side);
+    for (int i = 0; i < NUMBERS; i++) numbers[i] = float_of((random_word() >> 12) | 0x3ff0000000000000u);
+    time_both("each waits for the one before", in_turn);
     return different != 0;
 }
