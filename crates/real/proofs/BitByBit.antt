@@ -2,7 +2,8 @@
 -- Nothing here is about floats. Assumes nothing.
 use mathlib.Core.Path.{_≡_, refl, sym, ap, _∙_, subst}
 use Prim.Native.Nat.{ℕ, zero, suc, _+_, _-_, _*_, _/_, _^_, _≤_, _<_}
-use native.Mathlib.Nat.{add-mul, mul-add, mul-assoc, mul-comm, mul-left-comm, mul-one, pow-succ'}
+use native.Mathlib.Nat.{add-mul, mul-add, mul-assoc, mul-comm, mul-left-comm, mul-le-mul-right, lt-of-not-le, pow-succ'}
+use native.Mathlib.Decide.{decLe}
 use native.Mathlib.Omega.{arith}
 use mathlib.Core.Bool.{Bool, true, false, not, cond}
 use lib.Dec.{T, leb, leb→le, nleb→lt}
@@ -128,6 +129,30 @@ module _ (n twice rest bit : ℕ) (k : Kept n twice rest bit) (h : 0 < bit) wher
             few = subst (λ (x : ℕ). 2 * rest < 2 * root + x) weight (omega (arith, doubled));
             room = subst (λ (x : ℕ). root + x ≤ 2 ^ 53) weight (omega (arith, room));
           }
+
+  -- the trial fits exactly where the square with the bit is at most n
+  pub asks-the-square : (twice + bit ≤ 2 * rest → (k .root + bit) * (k .root + bit) ≤ n) × ((k .root + bit) * (k .root + bit) ≤ n → twice + bit ≤ 2 * rest)
+  asks-the-square = (
+    (λ fits. omega (arith, joins root bit rest n (told .2) (subst (λ (x : ℕ). x + bit ≤ 2 * rest) doubled fits))),
+    (λ within. go within (decLe (twice + bit) (2 * rest))),
+  )
+    where
+      root : ℕ
+      root = k .root
+
+      doubled : twice ≡ 2 * root
+      doubled = k .doubled
+
+      too-much : (root + bit) * (root + bit) ≤ n → 2 * rest < 2 * root + bit → ⊥
+      too-much within more =
+          let one-more : (2 * rest + 1) * bit ≤ (2 * root + bit) * bit = mul-le-mul-right bit (omega arith) in
+          let parts : (2 * rest + 1) * bit ≡ 2 * rest * bit + 1 * bit = add-mul (2 * rest) 1 bit in
+          let grown : (2 * root + bit) * bit ≡ 2 * root * bit + bit * bit = add-mul (2 * root) bit bit in
+          omega (arith, square root bit, passes root bit rest n (told .2), mul-assoc 2 root bit)
+
+      go : (root + bit) * (root + bit) ≤ n → Dec (twice + bit ≤ 2 * rest) → twice + bit ≤ 2 * rest
+      go within (yes fits) = fits
+      go within (no g) = absurd (too-much within (subst (λ (x : ℕ). 2 * rest < x + bit) doubled (lt-of-not-le g)))
 
 -- after the last digit: the whole root and what its square leaves
 pub ended : (n twice rest bit : ℕ) → Kept n twice rest bit → bit ≤ 0 → (twice / 2 * (twice / 2) + rest ≡ n) × (rest ≤ 2 * (twice / 2)) × (twice / 2 < 2 ^ 53)
