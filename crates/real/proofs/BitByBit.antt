@@ -1,172 +1,159 @@
--- The whole root, one bit at a time from the top: what the loop keeps, that it holds at the start and after a bit more, and what it says at the end.
+-- A whole root, one bit at a time from the top: what is kept, that it holds at the leading bit and after each bit more, and what it says after the last.
 -- Nothing here is about floats. Assumes nothing.
 use mathlib.Core.Path.{_≡_, refl, sym, ap, _∙_, subst}
 use Prim.Native.Nat.{ℕ, zero, suc, _+_, _-_, _*_, _/_, _^_, _≤_, _<_}
-use native.Mathlib.Nat.{add-mul, mul-add, mul-assoc, mul-comm, mul-left-comm, mul-le-mul-right, lt-of-not-le, pow-succ'}
+use native.Mathlib.Nat.{add-mul, mul-assoc, mul-le-mul-right, lt-of-not-le}
 use native.Mathlib.Decide.{decLe}
 use native.Mathlib.Omega.{arith}
-use mathlib.Core.Bool.{Bool, true, false, not, cond}
-use lib.Dec.{T, leb, leb→le, nleb→lt}
+use mathlib.Core.Bool.{Bool, true, false, cond}
+use lib.Dec.{leb}
 use lib.Pow.{pow-pos}
-use Rattle.real.specs.Bits.{twiceNext, restNext}
+use borrow.Author.Tests.{leb-true, leb-false}
+use Rattle.real.specs.declared.root.Found.{Found}
+use Rattle.real.specs.Bits.{trialOf, fitsNext, withBit, withoutBit, nextOf}
 
--- The root so far and the digits still to come: the root's square leaves rest * 2 ^ digits of n, too little for the last digit found to be one more, and no digit
--- to come can carry the root to 2 ^ 53.
-pub record Kept (n twice rest bit : ℕ) : Type 0 where
+-- The root so far, what its square leaves of n, and the digits still to come: too little is left for the last bit found to be one more, and with the bits to come
+-- the root stays below most.
+pub record Kept (most n digits : ℕ) (f : Found) : Type 0 where
   pub root : ℕ
-  pub digits : ℕ
-  pub doubled : twice ≡ 2 * root
-  pub weight : bit ≡ 2 ^ digits / 2
-  pub left : root * root + rest * 2 ^ digits ≡ n
-  pub few : rest < 2 * root + 2 ^ digits
-  pub room : root + 2 ^ digits ≤ 2 ^ 53
+  pub doubled : f .twice ≡ 2 * root
+  pub weight : f .bit ≡ 2 ^ digits / 2
+  pub left : root * root + f .rest * 2 ^ digits ≡ n
+  pub few : f .rest < 2 * root + 2 ^ digits
+  pub room : root + 2 ^ digits ≤ most
 
--- the leading digit is known
-pub start : (a : ℕ) → 2 ^ 52 ≤ a → a < 2 ^ 54 → Kept (a * 2 ^ 52) 9007199254740992 (a - 4503599627370496) 2251799813685248
-start a lo hi = record {
-  root = 4503599627370496;
-  digits = 52;
-  doubled = refl;
-  weight = refl;
-  left = omega arith;
-  few = omega arith;
-  room = omega arith;
-}
+-- the leading bit is found: n is a times its weight
+abbrev pub leading : ℕ → ℕ → Found
+leading top a = record { twice = 2 * top; rest = a - top; bit = top / 2 }
 
-square : (q b : ℕ) → (q + b) * (q + b) ≡ q * q + 2 * (q * b) + b * b
-square q b = omega (arith, mul-add (q + b) q b, add-mul q b q, add-mul q b b, mul-comm q b)
+pub start : (digits a : ℕ) → 2 ^ digits ≤ a → a < 4 * 2 ^ digits → Kept (2 * 2 ^ digits) (a * 2 ^ digits) digits (leading (2 ^ digits) a)
+start digits a low high =
+    let top = 2 ^ digits in
+    let parts : a ≡ top + (a - top) = omega arith in
+    record {
+      root = top;
+      doubled = refl;
+      weight = refl;
+      left = sym (ap (λ (x : ℕ). x * top) parts ∙ add-mul top (a - top) top);
+      few = omega arith;
+      room = omega arith;
+    }
 
--- the next digit, of weight b: it joins the root, or it does not
+-- nothing overflows
+pub within : (most n digits : ℕ) (f : Found) → Kept most n digits f → most ≤ 2 ^ 60 → (f .rest < 2 ^ 62) × (f .twice + 2 * f .bit < 2 ^ 63)
+within most n digits f k small =
+    let doubled = k .doubled in
+    let weight = k .weight in
+    let few = k .few in
+    let room = k .room in
+    (omega arith, omega arith)
+
+-- the weight falls
+pub next-less : (f next : Found) → next ≡ nextOf f → 0 < f .bit → next .bit < f .bit
+unfolding nextOf
+next-less f next e some = let half : next .bit ≡ f .bit / 2 = ap (λ (g : Found). g .bit) e ∙ by (fitsNext f) in omega arith
+  where
+    by : (t : Bool) → cond {A = Found} t (withBit f) (withoutBit f) .bit ≡ f .bit / 2
+    by true = refl
+    by false = refl
+
+-- a bit of weight b joins the root, or it does not
 joins : (q b rest n : ℕ) → q * q + rest * (2 * b) ≡ n → 2 * q + b ≤ 2 * rest → (q + b) * (q + b) + (2 * rest - (2 * q + b)) * b ≡ n
 joins q b rest n e h =
     let d = 2 * rest - (2 * q + b) in
     let parts : 2 * rest ≡ 2 * q + b + d = omega arith in
-    let whole : 2 * rest * b ≡ (2 * q + b) * b + d * b = ap (λ (x : ℕ). x * b) parts ∙ add-mul (2 * q + b) d b in
-    let grown : (2 * q + b) * b ≡ 2 * q * b + b * b = add-mul (2 * q) b b in
-    omega (arith, square q b, mul-left-comm rest 2 b, mul-assoc 2 rest b, whole, grown, mul-assoc 2 q b)
+    omega (arith, ap (λ (x : ℕ). x * b) parts)
 
 passes : (q b rest n : ℕ) → q * q + rest * (2 * b) ≡ n → q * q + 2 * rest * b ≡ n
-passes q b rest n e = omega (arith, mul-left-comm rest 2 b, mul-assoc 2 rest b)
+passes q b rest n e = omega arith
 
--- where a digit is still to come, the weight of the next is half of the last one's
-halved : (bit d : ℕ) → bit ≡ 2 ^ d / 2 → 0 < bit → (k : ℕ) × (bit ≡ 2 ^ k) × (2 ^ d ≡ 2 * bit)
-halved bit zero e h = absurd (none e h)
-  where
-    none : bit ≡ 1 / 2 → 0 < bit → ⊥
-    none p q = omega arith
-halved bit (suc k) e h = (k, half (pow-succ' 2 k) e, twice (pow-succ' 2 k) e)
-  where
-    half : 2 ^ suc k ≡ 2 * 2 ^ k → bit ≡ 2 ^ suc k / 2 → bit ≡ 2 ^ k
-    half p q = omega arith
+module _ (most n digits : ℕ) (f : Found) (k : Kept most n (suc digits) f) where
+  abbrev root : ℕ
+  root = k .root
 
-    twice : 2 ^ suc k ≡ 2 * 2 ^ k → bit ≡ 2 ^ suc k / 2 → 2 ^ suc k ≡ 2 * bit
-    twice p q = omega arith
+  doubled : f .twice ≡ 2 * root
+  doubled = k .doubled
 
-module _ (n twice rest bit : ℕ) (k : Kept n twice rest bit) (h : 0 < bit) where
-  -- what is known, in the next digit's weight
-  told : (digits : ℕ) × (bit ≡ 2 ^ digits) × (k .root * k .root + rest * (2 * bit) ≡ n) × (rest < twice + 2 * bit) × (k .root + 2 * bit ≤ 2 ^ 53)
-  told =
-      let z = halved bit (k .digits) (k .weight) h in
-      let w : 2 ^ k .digits ≡ 2 * bit = z .2 in (
-        z .0,
-        z .1,
-        subst (λ (x : ℕ). k .root * k .root + rest * x ≡ n) w (k .left),
-        subst (λ (x : ℕ). rest < x) (ap (λ (x : ℕ). x + 2 ^ k .digits) (sym (k .doubled)) ∙ ap (λ (x : ℕ). twice + x) w) (k .few),
-        subst (λ (x : ℕ). k .root + x ≤ 2 ^ 53) w (k .room),
-      )
+  -- the next bit's weight, and what is known in it
+  bit-is : f .bit ≡ 2 ^ digits
+  bit-is = let w = k .weight in omega arith
 
-  -- nothing overflows
-  pub within : (rest < 2 ^ 62) × (twice + 2 * bit < 2 ^ 63)
-  within =
-      let few : rest < twice + 2 * bit = told .3 in
-      let room : k .root + 2 * bit ≤ 2 ^ 53 = told .4 in
-      let doubled : twice ≡ 2 * k .root = k .doubled in
-      (omega arith, omega arith)
+  last-is : 2 ^ suc digits ≡ 2 * f .bit
+  last-is = let w = bit-is in omega arith
+
+  left-by : root * root + f .rest * (2 * f .bit) ≡ n
+  left-by = subst (λ (x : ℕ). root * root + f .rest * x ≡ n) last-is (k .left)
+
+  few-by : f .rest < 2 * root + 2 * f .bit
+  few-by = subst (λ (x : ℕ). f .rest < 2 * root + x) last-is (k .few)
+
+  room-by : root + 2 * f .bit ≤ most
+  room-by = subst (λ (x : ℕ). root + x ≤ most) last-is (k .room)
+
+  pub some-bit : 0 < f .bit
+  some-bit = let w = bit-is in let p : 0 < 2 ^ digits = pow-pos digits in omega arith
 
   -- one bit more
-  pub again : Kept n (twiceNext twice rest bit) (restNext twice rest bit) (bit / 2)
-  again = go (leb (twice + bit) (2 * rest)) (leb→le (twice + bit) (2 * rest)) (nleb→lt (twice + bit) (2 * rest))
+  pub again : Kept most n digits (nextOf f)
+  unfolding nextOf
+  again = by (fitsNext f) refl
     where
-      root : ℕ
-      root = k .root
-
-      doubled : twice ≡ 2 * root
-      doubled = k .doubled
-
-      digits : ℕ
-      digits = told .0
-
-      weight : bit ≡ 2 ^ digits
-      weight = told .1
-
-      few : rest < twice + 2 * bit
-      few = told .3
-
-      room : root + 2 * bit ≤ 2 ^ 53
-      room = told .4
-
-      go : (b : Bool) → (T b → twice + bit ≤ 2 * rest) → (T (not b) → 2 * rest < twice + bit) → Kept n (cond b (twice + bit + bit) twice) (cond b (2 * rest - (twice + bit)) (2 * rest)) (bit / 2)
-      go true most less =
-          let fits : 2 * root + bit ≤ 2 * rest = subst (λ (x : ℕ). x + bit ≤ 2 * rest) doubled (most tt) in
-          let left : (root + bit) * (root + bit) + (2 * rest - (twice + bit)) * bit ≡ n = ap (λ (x : ℕ). (root + bit) * (root + bit) + (2 * rest - (x + bit)) * bit) doubled ∙ joins root bit rest n (told .2) fits in
+      by : (t : Bool) → fitsNext f ≡ t → Kept most n digits (cond t (withBit f) (withoutBit f))
+      by true e =
+          let fits : 2 * root + f .bit ≤ 2 * f .rest = subst (λ (x : ℕ). x + f .bit ≤ 2 * f .rest) doubled (leb-true _ _ e) in
+          let left : (root + f .bit) * (root + f .bit) + (2 * f .rest - trialOf f) * f .bit ≡ n =
+          ap (λ (x : ℕ). (root + f .bit) * (root + f .bit) + (2 * f .rest - (x + f .bit)) * f .bit) doubled ∙ joins root (f .bit) (f .rest) n left-by fits in
           record {
-            root = root + bit;
-            digits = digits;
+            root = root + f .bit;
             doubled = omega (arith, doubled);
-            weight = ap (λ (x : ℕ). x / 2) weight;
-            left = subst (λ (x : ℕ). (root + bit) * (root + bit) + (2 * rest - (twice + bit)) * x ≡ n) weight left;
-            few = subst (λ (x : ℕ). 2 * rest - (twice + bit) < 2 * (root + bit) + x) weight (omega (arith, few, doubled));
-            room = subst (λ (x : ℕ). root + bit + x ≤ 2 ^ 53) weight (omega (arith, room));
+            weight = ap (λ (x : ℕ). x / 2) bit-is;
+            left = subst (λ (x : ℕ). (root + f .bit) * (root + f .bit) + (2 * f .rest - trialOf f) * x ≡ n) bit-is left;
+            few = subst (λ (x : ℕ). 2 * f .rest - trialOf f < 2 * (root + f .bit) + x) bit-is (omega (arith, few-by, doubled));
+            room = subst (λ (x : ℕ). root + f .bit + x ≤ most) bit-is (omega (arith, room-by));
           }
-      go false most less =
-          let short : 2 * rest < twice + bit = less tt in
+      by false e =
+          let short : 2 * f .rest < trialOf f = leb-false _ _ e in
           record {
             root = root;
-            digits = digits;
             doubled = doubled;
-            weight = ap (λ (x : ℕ). x / 2) weight;
-            left = subst (λ (x : ℕ). root * root + 2 * rest * x ≡ n) weight (passes root bit rest n (told .2));
-            few = subst (λ (x : ℕ). 2 * rest < 2 * root + x) weight (omega (arith, doubled));
-            room = subst (λ (x : ℕ). root + x ≤ 2 ^ 53) weight (omega (arith, room));
+            weight = ap (λ (x : ℕ). x / 2) bit-is;
+            left = subst (λ (x : ℕ). root * root + 2 * f .rest * x ≡ n) bit-is (passes root (f .bit) (f .rest) n left-by);
+            few = subst (λ (x : ℕ). 2 * f .rest < 2 * root + x) bit-is (omega (arith, doubled));
+            room = subst (λ (x : ℕ). root + x ≤ most) bit-is (omega (arith, room-by));
           }
 
   -- the trial fits exactly where the square with the bit is at most n
-  pub asks-the-square : (twice + bit ≤ 2 * rest → (k .root + bit) * (k .root + bit) ≤ n) × ((k .root + bit) * (k .root + bit) ≤ n → twice + bit ≤ 2 * rest)
+  pub asks-the-square : (trialOf f ≤ 2 * f .rest → (k .root + f .bit) * (k .root + f .bit) ≤ n) × ((k .root + f .bit) * (k .root + f .bit) ≤ n → trialOf f ≤ 2 * f .rest)
   asks-the-square = (
-    (λ fits. omega (arith, joins root bit rest n (told .2) (subst (λ (x : ℕ). x + bit ≤ 2 * rest) doubled fits))),
-    (λ within. go within (decLe (twice + bit) (2 * rest))),
+    (λ fits. omega (arith, joins root (f .bit) (f .rest) n left-by (subst (λ (x : ℕ). x + f .bit ≤ 2 * f .rest) doubled fits))),
+    (λ square. by square (decLe (trialOf f) (2 * f .rest))),
   )
     where
-      root : ℕ
-      root = k .root
+      too-much : (root + f .bit) * (root + f .bit) ≤ n → 2 * f .rest < 2 * root + f .bit → ⊥
+      too-much square more =
+          let one-more : (2 * f .rest + 1) * f .bit ≤ (2 * root + f .bit) * f .bit = mul-le-mul-right (f .bit) (omega arith) in
+          omega (arith, passes root (f .bit) (f .rest) n left-by, some-bit, add-mul (2 * f .rest) 1 (f .bit), add-mul (2 * root) (f .bit) (f .bit), mul-assoc 2 root (f .bit))
 
-      doubled : twice ≡ 2 * root
-      doubled = k .doubled
+      by : (root + f .bit) * (root + f .bit) ≤ n → Dec (trialOf f ≤ 2 * f .rest) → trialOf f ≤ 2 * f .rest
+      by square (yes fits) = fits
+      by square (no g) = absurd (too-much square (subst (λ (x : ℕ). 2 * f .rest < x + f .bit) doubled (lt-of-not-le g)))
 
-      too-much : (root + bit) * (root + bit) ≤ n → 2 * rest < 2 * root + bit → ⊥
-      too-much within more =
-          let one-more : (2 * rest + 1) * bit ≤ (2 * root + bit) * bit = mul-le-mul-right bit (omega arith) in
-          let parts : (2 * rest + 1) * bit ≡ 2 * rest * bit + 1 * bit = add-mul (2 * rest) 1 bit in
-          let grown : (2 * root + bit) * bit ≡ 2 * root * bit + bit * bit = add-mul (2 * root) bit bit in
-          omega (arith, square root bit, passes root bit rest n (told .2), mul-assoc 2 root bit)
+-- the digits to come by the next bit's weight: none where it is 0
+pub some-come : (most n digits : ℕ) (f : Found) → Kept most n digits f → 0 < f .bit → (rest : ℕ) × (digits ≡ suc rest)
+some-come most n zero f k h = absurd (let w : f .bit ≡ 2 ^ 0 / 2 = k .weight in omega arith)
+some-come most n (suc digits) f k h = (digits, refl)
 
-      go : (root + bit) * (root + bit) ≤ n → Dec (twice + bit ≤ 2 * rest) → twice + bit ≤ 2 * rest
-      go within (yes fits) = fits
-      go within (no g) = absurd (too-much within (subst (λ (x : ℕ). 2 * rest < x + bit) doubled (lt-of-not-le g)))
+pub none-come : (most n digits : ℕ) (f : Found) → Kept most n digits f → f .bit ≤ 0 → digits ≡ 0
+none-come most n zero f k h = refl
+none-come most n (suc digits) f k h = absurd (let p = some-bit most n digits f k in omega arith)
 
 -- after the last digit: the whole root and what its square leaves
-pub ended : (n twice rest bit : ℕ) → Kept n twice rest bit → bit ≤ 0 → (twice / 2 * (twice / 2) + rest ≡ n) × (rest ≤ 2 * (twice / 2)) × (twice / 2 < 2 ^ 53)
-ended n twice rest bit k h = go (k .digits) (k .weight) (k .left) (k .few) (k .room)
-  where
-    root : ℕ
-    root = k .root
-
-    is : twice / 2 ≡ root
-    is = let doubled : twice ≡ 2 * root = k .doubled in omega arith
-
-    more : (d : ℕ) → bit ≡ 2 ^ suc d / 2 → ⊥
-    more d e = let p : 0 < 2 ^ d = pow-pos d in omega (arith, pow-succ' 2 d)
-
-    go : (d : ℕ) → bit ≡ 2 ^ d / 2 → root * root + rest * 2 ^ d ≡ n → rest < 2 * root + 2 ^ d → root + 2 ^ d ≤ 2 ^ 53 → (twice / 2 * (twice / 2) + rest ≡ n) × (rest ≤ 2 * (twice / 2)) × (twice / 2 < 2 ^ 53)
-    go zero w left few room = rw is (omega arith, omega arith, omega arith)
-    go (suc d) w left few room = absurd (more d w)
+pub ended : (most n : ℕ) (f : Found) → Kept most n 0 f → (f .twice / 2 * (f .twice / 2) + f .rest ≡ n) × (f .rest ≤ 2 * (f .twice / 2)) × (f .twice / 2 < most)
+ended most n f k =
+    let root = k .root in
+    let doubled = k .doubled in
+    let is : root ≡ f .twice / 2 = omega arith in
+    let left : root * root + f .rest ≡ n = let l = k .left in omega arith in
+    let few : f .rest ≤ 2 * root = let l = k .few in omega arith in
+    let room : root < most = let r = k .room in omega arith in
+    subst (λ (q : ℕ). (q * q + f .rest ≡ n) × (f .rest ≤ 2 * q) × (q < most)) is (left, few, room)

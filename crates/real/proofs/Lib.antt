@@ -8,7 +8,7 @@ pub mod Nan
 pub mod SignBit
 -- the square root
 mod Squares
-mod BitByBit
+pub mod BitByBit
 mod Differences
 mod Rounded
 mod NearUnits

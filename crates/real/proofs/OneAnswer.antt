@@ -18,7 +18,7 @@ pub sqrt-only : Only 0 sqrt-k.ps sqrt-k.r sqrt.Pre sqrt.Post
 sqrt-only κs a x y v w h p q = (p ∙ sym q, refl)
 
 pub next-bit-only : Only 0 next-bit-k.ps next-bit-k.r next-bit.Pre next-bit.Post
-next-bit-only κs a x y v w h p q = ((λ i. record { twice = (p .0 ∙ sym (q .0)) i; rest = (p .1 ∙ sym (q .1)) i; bit = (p .2 ∙ sym (q .2)) i }), refl)
+next-bit-only κs a x y v w h p q = (p ∙ sym q, refl)
 
 pub is-negative-only : Only 0 is-negative-k.ps is-negative-k.r is-negative.Pre is-negative.Post
 is-negative-only κs a x y v w h p q = (p ∙ sym q, refl)

@@ -1,17 +1,25 @@
--- One bit more of a whole root, as the code finds it: twice is twice the root so far, rest what its square leaves, counted in the last bit found (2 * bit), and
--- bit the weight of the next. Definitions only; the promise of the root itself does not name them.
-use Prim.Native.Nat.{ℕ, _+_, _-_, _*_}
+-- One bit more of a whole root, as the code finds it. Definitions only; the promise of the root itself does not name them.
+use Prim.Native.Nat.{ℕ, _+_, _-_, _*_, _/_}
 use mathlib.Core.Bool.{Bool, cond}
 use lib.Dec.{leb}
+use Rattle.real.specs.declared.root.Found.{Found}
 
--- whether that bit belongs to the root: with it the square grows by (twice + bit) * bit, and rest * (2 * bit) is left
-abbrev pub fitsNext : ℕ → ℕ → ℕ → Bool
-fitsNext twice rest bit = leb (twice + bit) (2 * rest)
+-- what is tried for the next bit: with it the root's square would grow by trialOf f * f .bit
+abbrev pub trialOf : Found → ℕ
+trialOf f = f .twice + f .bit
 
--- twice the root after it
-abbrev pub twiceNext : ℕ → ℕ → ℕ → ℕ
-twiceNext twice rest bit = cond (fitsNext twice rest bit) (twice + bit + bit) twice
+-- whether that is at most what the square leaves, f .rest times 2 * f .bit
+abbrev pub fitsNext : Found → Bool
+fitsNext f = leb (trialOf f) (2 * f .rest)
 
--- what the square then leaves, counted in that bit
-abbrev pub restNext : ℕ → ℕ → ℕ → ℕ
-restNext twice rest bit = cond (fitsNext twice rest bit) (2 * rest - (twice + bit)) (2 * rest)
+-- the bit joins the root, and what is then left is counted in it
+abbrev pub withBit : Found → Found
+withBit f = record { twice = trialOf f + f .bit; rest = 2 * f .rest - trialOf f; bit = f .bit / 2 }
+
+-- or it does not, and what is left is counted in it all the same
+abbrev pub withoutBit : Found → Found
+withoutBit f = record { twice = f .twice; rest = 2 * f .rest; bit = f .bit / 2 }
+
+-- one bit more
+unfoldable pub nextOf : Found → Found
+nextOf f = cond (fitsNext f) (withBit f) (withoutBit f)

@@ -1,11 +1,11 @@
 // The inside of the square root, over whole numbers: one bit of the root at a time, from the top. docs/ROOT.md tells it with an example.
 ghost use mathlib.Core.Path.{_≡_};
 ghost use mathlib.Core.Bool.{false, not};
-ghost use Prim.Native.Nat.{_+_, _*_, _/_, _%_, _^_, _≤_, _<_};
+ghost use Prim.Native.Nat.{_+_, _*_, _%_, _^_, _≤_, _<_};
 ghost use lib.Dec.{T};
 ghost use lib.Ieee.{binary64, ofBits, nanBits};
 ghost use lib.Ieee.Exact.{HasValue};
-ghost use Rattle.real.specs.Bits.{twiceNext, restNext};
+ghost use Rattle.real.specs.Bits.{nextOf};
 ghost use Rattle.real.specs.Root.{sqrtOf};
 
 // The weight of an f64's leading digit, and of its exponent's field.
@@ -25,7 +25,7 @@ pub struct Found {
 // The rest is counted in this bit from here on, so it doubles.
 pub fn next_bit(found: Found) -> Found
     requires { ⌜ (found .rest < 2 ^ 62) × (found .twice + 2 * found .bit < 2 ^ 63) ⌝ }
-    ensures { λ r. ⌜ (r .twice ≡ twiceNext (found .twice) (found .rest) (found .bit)) × (r .rest ≡ restNext (found .twice) (found .rest) (found .bit)) × (r .bit ≡ found .bit / 2) ⌝ }
+    ensures { λ r. ⌜ r ≡ nextOf found ⌝ }
 {
     let rest = 2 * found.rest;
     let trial = found.twice + found.bit;
