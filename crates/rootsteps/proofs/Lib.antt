@@ -12,3 +12,5 @@ mod Lines
 pub mod LastLines
 -- 4,096 bytes are enough to read and to write
 pub mod Whole
+-- this crate's promise leaves one answer
+mod OneAnswer
