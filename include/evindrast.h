@@ -196,7 +196,9 @@ uint32_t evindrast_div(uint32_t kind, const double *records, size_t records_len,
 uint32_t evindrast_sum(uint32_t kind, const double *run, size_t run_len, double *out, size_t out_len);
 uint32_t evindrast_product(uint32_t kind, const double *run, size_t run_len, double *out, size_t out_len);
 
-/* The square root, rounded to nearest: that of IEEE 754. -0 gives -0; a negative or a NaN gives a NaN. */
+/* The square root, rounded to nearest: that of IEEE 754. -0 gives -0; a negative or a NaN gives a NaN. It is found one
+   bit at a time (docs/ROOT.md), which takes some ten to thirty times as long as the machine's own root; both give the
+   same float. */
 double evindrast_sqrt(double x);
 
 /* The same by the bits of x and of the root; a NaN leaves as 7ff8000000000000. */

@@ -119,6 +119,9 @@ pub fn product(kind: u32, run: &[f64], out: &mut [f64]) -> u32 {
 
 /// The square root of IEEE 754.
 ///
+/// It is found one bit at a time (docs/ROOT.md), which takes some ten to thirty times as long as `f64::sqrt`; both give
+/// the same float.
+///
 /// ```
 /// use evindrast::exports::sqrt;
 /// // P10
