@@ -10,7 +10,7 @@ pub mod SignBit
 mod Squares
 pub mod BitByBit
 mod Differences
-mod Rounded
+pub mod Rounded
 mod NearUnits
 mod Patterns
 mod Ends

@@ -1,5 +1,5 @@
 -- What the last two lines say is true, for every text that is read: the steps keep what the root's square leaves, down to the last bit. Assumes nothing.
-use Prim.Native.Nat.{ℕ, zero, suc, _+_, _-_, _*_, _/_, _%_, _^_, _≤_, _<_}
+use Prim.Native.Nat.{ℕ, _+_, _-_, _*_, _/_, _%_, _^_, _≤_, _<_}
 use mathlib.Core.Path.{_≡_, refl, sym, ap, _∙_, subst}
 use mathlib.Core.Bool.{Bool, true, false, cond}
 use mathlib.Core.List.{List}
@@ -8,6 +8,7 @@ use native.Mathlib.Omega.{arith}
 use lib.Dec.{ltb}
 use lib.Pow.{pow-add, pow-pos}
 use borrow.Author.Tests.{ltb-true, ltb-false}
+use Rattle.real.proofs.Rounded.{stays, moves}
 use Rattle.rootsteps.specs.declared.Request.the-variants.{Steps}
 use Rattle.rootsteps.specs.Request.{requestOf}
 use Rattle.rootsteps.specs.Start.{topOf, shiftOf, oddOf, significandOf, exponentOf, startOf, foundOf}
@@ -36,20 +37,12 @@ pub exponent-even : (number bits : ℕ) → exponentOf number bits % 2 ≡ 0
 unfolding exponentOf
 exponent-even number bits = omega arith
 
--- a number has a root
-some-root : (n root left : ℕ) → 0 < n → root * root + left ≡ n → left ≤ 2 * root → 0 < root
-some-root n zero left positive sum whole = absurd (omega arith)
-some-root n (suc root) left positive sum whole = omega arith
-
 rounds : (n root left : ℕ) → 0 < n → root * root + left ≡ n → left ≤ 2 * root → Told n root left (nearestOf root left)
 rounds n root left positive sum whole = by (ltb root left) refl
   where
     by : (t : Bool) → ltb root left ≡ t → Told n root left (cond t (root + 1) root)
-    by true e = let more : root < left = ltb-true root left e in record { sum = sum; whole = whole; below = omega arith; above = omega arith }
-    by false e =
-        let most : left ≤ root = ltb-false root left e in
-        let some = some-root n root left positive sum whole in
-        record { sum = sum; whole = whole; below = omega arith; above = omega arith }
+    by true e = let near = moves n root left sum whole (ltb-true root left e) in record { sum = sum; whole = whole; below = near .0; above = near .1 }
+    by false e = let near = stays n root left sum positive (ltb-false root left e) in record { sum = sum; whole = whole; below = near .0; above = near .1 }
 
 pub lines-true : (text : List ℕ) (number bits : ℕ) → requestOf text ≡ Steps number bits
     → Told (number * 2 ^ exponentOf number bits) (foundOf number bits .twice / 2) (foundOf number bits .rest) (nearestOf (foundOf number bits .twice / 2) (foundOf number bits .rest))
