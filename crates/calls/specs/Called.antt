@@ -30,11 +30,12 @@ use Rattle.calls.specs.declared.Line.{Line}
 use Rattle.calls.specs.Table.{lineOf}
 use Rattle.floats.specs.Words.{floatsOf, wordsOf}
 
--- A record type by what calls use of it: its operations, its layout in flat floats, and `derivative`, `derivative1`, .. by function number, refused 2 where the
+-- A record type by what calls use of it: its operations, its layout in flat floats, how many derivatives it carries, and `derivative`, `derivative1`, .. by function number, refused 2 where the
 -- record has no such one.
 pub record Kind (R : Type 0) : Type 0 where
   pub algebra : Algebra R
   pub layout : Layout R
+  pub nderiv : ℕ
   pub derivative : ℕ → R → Outcome R
 
 -- a predicate of the real parts a and b
@@ -119,7 +120,7 @@ module _ {R : Type 0} (K : Kind R) where
   operateOf (operation.Atan2 atan quadrant) x y z = value (atan2Of (K .algebra) x y atan quadrant)
   operateOf operation.MulAdd x y z = value (mulAddOf (K .algebra) x y z)
   operateOf (operation.Powd ln exp) x y z = value (powdOf (K .algebra) x y ln exp)
-  operateOf (operation.Request f) x y z = applyOf (K .algebra) x f
+  operateOf (operation.Request f) x y z = applyOf (K .algebra) (K .nderiv) x f
 
   -- what a call gives, as floats
   abbrev pub answerOf : Call → R → R → R → Outcome (List Float)

@@ -5,6 +5,8 @@ pub mod Arms
 pub mod Signs
 -- real parts come from real parts alone, over any record
 pub mod RealParts
+-- the rules of sph_j for small x are the beginnings of their series
+pub mod BesselTerms
 -- the plan of a request, from what the request is
 mod Requests
 -- the exponents of powi

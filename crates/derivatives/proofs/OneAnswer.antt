@@ -3,6 +3,7 @@ use mathlib.Core.Path.{refl, sym, _∙_}
 use Rattle.real.proofs.Only.{Only}
 use Rattle.derivatives.proofs.Series as series
 use Rattle.derivatives.proofs.choose
+use Rattle.derivatives.proofs.is_small
 
 pub recip-only : Only 0 series.recip.Kinds.ps series.recip.Kinds.r series.recip.Reads.Pre series.recip.Reads.Post
 recip-only κs a x y v w h p q = (p ∙ sym q, refl)
@@ -72,3 +73,6 @@ atanh-only κs a x y v w h p q = (p ∙ sym q, refl)
 
 pub choose-only : Only 0 choose.Kinds.ps choose.Kinds.r choose.Reads.Pre choose.Reads.Post
 choose-only κs a x y v w h p q = (p ∙ sym q, refl)
+
+pub is-small-only : Only 0 «is_small».Kinds.ps «is_small».Kinds.r «is_small».Reads.Pre «is_small».Reads.Post
+is-small-only κs a x y v w h p q = (p ∙ sym q, refl)

@@ -1,40 +1,50 @@
 -- A map that keeps the operations of a record keeps every elementary function. At the map to the real part: real parts, and whether a request is
 -- refused, come from real parts alone. Once for the five record types. Assumes nothing.
+use Prim.Native.Nat.{ℕ}
 use mathlib.Core.Path.{_≡_, refl, ap, sym, _∙_}
 use mathlib.Core.Bool.{cond}
+use lib.Dec.{eqb}
 use lib.Ieee.{Float, lt, eq}
 use Rattle.real.specs.Operations.{zero}
 use Rattle.real.specs.Sign.{signOf}
 use Rattle.algebra.specs.Algebra.{Algebra, Keeps, zeroOf, oneOf}
-use Rattle.algebra.specs.Outcome.{mapOutcome}
+use Rattle.refusals.specs.Number as refusal
+use Rattle.algebra.specs.Outcome.{value, refused, mapOutcome}
 use Rattle.algebra.proofs.RealParts.{cond-map}
 use Rattle.derivatives.specs.declared.Function.{Function}
 use Rattle.derivatives.specs.declared.Plan.{Plan}
-use Rattle.derivatives.specs.declared.Plan.the-variants.{Refused, One, Same, Square, Chain, Quotient, SmallJ0, SmallJ1, SmallJ2, BesselJ0, BesselJ1, BesselJ2}
-use Rattle.derivatives.specs.Plan.{planOf}
-use Rattle.derivatives.specs.Apply.{runPlan, applyOf, recipOf, sqrtOf, expOf, lnOf, sinOf, cosOf, atan2Of, mulAddOf, powdOf, absSubOf, signumOf}
+use Rattle.derivatives.specs.declared.Plan.the-variants.{Refused, One, Same, Square, Chain, Quotient, SmallJ0, SmallJ1, SmallJ2, BesselJ0, BesselJ1, BesselJ2, CubicJ1}
+use Rattle.derivatives.specs.Series.{sinSeries, cosSeries}
+use Rattle.derivatives.specs.Plan.{isSmall, planOf}
+use Rattle.derivatives.specs.Apply.{chainBy, cubicJ1, besselJ1, sphJ1SeriesOf, runPlan, applyOf, recipOf, sqrtOf, expOf, lnOf, sinOf, cosOf, atan2Of, mulAddOf, powdOf, absSubOf, signumOf}
 
 module _ {R S : Type 0} {A : Algebra R} {B : Algebra S} {h : R → S} (k : Keeps A B h) where
-  pub plan-keeps : (x : R) (p : Plan) → mapOutcome h (runPlan A x p) ≡ runPlan B (h x) p
-  plan-keeps x (Refused n) = refl
-  plan-keeps x One = simp (k .fromRe)
-  plan-keeps x Same = refl
-  plan-keeps x Square = simp (k .mul)
-  plan-keeps x (Chain s) = simp (k .chain)
-  plan-keeps x (Quotient s t) = simp (k .div, k .chain)
-  plan-keeps x SmallJ0 = simp (k .sub, k .fromRe, k .divFloat, k .mul)
-  plan-keeps x SmallJ1 = simp (k .divFloat)
-  plan-keeps x SmallJ2 = simp (k .divFloat, k .mul)
-  plan-keeps x (BesselJ0 s) = simp (k .div, k .chain)
-  plan-keeps x (BesselJ1 s t) = simp (k .div, k .sub, k .mul, k .chain)
-  plan-keeps x (BesselJ2 s t) = simp (k .div, k .sub, k .mulFloat, k .mul, k .chain)
+  pub sph-j1-series-keeps : (x : R) (s c : Float) → h (sphJ1SeriesOf A x s c) ≡ sphJ1SeriesOf B (h x) s c
+  sph-j1-series-keeps x s c =
+      rw (cond-map h (isSmall (A .re x)) (cubicJ1 A x) (besselJ1 A x (chainBy A x (sinSeries s c)) (chainBy A x (cosSeries s c))), k .re x)
+      (simp (k .sub, k .divFloat, k .mul, k .div, k .chain))
 
-  pub apply-keeps : (x : R) (f : Function) → mapOutcome h (applyOf A x f) ≡ applyOf B (h x) f
-  apply-keeps x f = rw (k .re x) (plan-keeps x (planOf (B .re (h x)) f))
+  pub plan-keeps : (nderiv : ℕ) (x : R) (p : Plan) → mapOutcome h (runPlan A nderiv x p) ≡ runPlan B nderiv (h x) p
+  plan-keeps nderiv x (Refused n) = refl
+  plan-keeps nderiv x One = simp (k .fromRe)
+  plan-keeps nderiv x Same = refl
+  plan-keeps nderiv x Square = simp (k .mul)
+  plan-keeps nderiv x (Chain s) = simp (k .chain)
+  plan-keeps nderiv x (Quotient s t) = simp (k .div, k .chain)
+  plan-keeps nderiv x SmallJ0 = simp (k .sub, k .fromRe, k .divFloat, k .mul)
+  plan-keeps nderiv x SmallJ1 = simp (k .divFloat)
+  plan-keeps nderiv x SmallJ2 = simp (k .divFloat, k .mul)
+  plan-keeps nderiv x (BesselJ0 s) = simp (k .div, k .chain)
+  plan-keeps nderiv x (BesselJ1 s t) = simp (k .div, k .sub, k .mul, k .chain)
+  plan-keeps nderiv x (BesselJ2 s t) = simp (k .div, k .sub, k .mulFloat, k .mul, k .chain)
+  plan-keeps nderiv x (CubicJ1 s c) = rw (cond-map (mapOutcome h) (eqb nderiv 3) (value (sphJ1SeriesOf A x s c)) (refused refusal.wrongLength), sph-j1-series-keeps x s c)
+
+  pub apply-keeps : (nderiv : ℕ) (x : R) (f : Function) → mapOutcome h (applyOf A nderiv x f) ≡ applyOf B nderiv (h x) f
+  apply-keeps nderiv x f = rw (k .re x) (plan-keeps nderiv x (planOf (B .re (h x)) f))
 
   -- records that the map cannot tell apart: the same number, and answers that it cannot tell apart
-  pub apply-never-steers : (x x′ : R) (f : Function) → h x ≡ h x′ → mapOutcome h (applyOf A x f) ≡ mapOutcome h (applyOf A x′ f)
-  apply-never-steers x x′ f e = apply-keeps x f ∙ ap (λ (y : S). applyOf B y f) e ∙ sym (apply-keeps x′ f)
+  pub apply-never-steers : (nderiv : ℕ) (x x′ : R) (f : Function) → h x ≡ h x′ → mapOutcome h (applyOf A nderiv x f) ≡ mapOutcome h (applyOf A nderiv x′ f)
+  apply-never-steers nderiv x x′ f e = apply-keeps nderiv x f ∙ ap (λ (y : S). applyOf B nderiv y f) e ∙ sym (apply-keeps nderiv x′ f)
 
   pub recip-keeps : (x : R) → h (recipOf A x) ≡ recipOf B (h x)
   recip-keeps x = simp (k .chain, k .re)

@@ -1,6 +1,6 @@
 -- The plan of a request, from what the request is, and its cases by the tests: cited by `choose` and the functions that it calls. Assumes nothing.
 use mathlib.Core.Path.{_≡_}
-use mathlib.Core.Bool.{true, false}
+use mathlib.Core.Bool.{Bool, true, false}
 use mir.Syntax.{w32}
 use mir.Val.{toZ, ofZ}
 use lib.Ieee.{Float, lt, eq}
@@ -13,7 +13,7 @@ use Rattle.derivatives.specs.declared.Function.the-variants.{Powi, SphJ0
 use Rattle.derivatives.specs.declared.Plan.{Plan}
 use Rattle.derivatives.specs.declared.Plan.the-variants.{One, Same, Square, Chain, SmallJ0, SmallJ1, SmallJ2, BesselJ0, BesselJ1, BesselJ2}
 use Rattle.derivatives.specs.Series.{powfSeries, sinSeries, cosSeries}
-use Rattle.derivatives.specs.Plan.{planPowi, planPowf, small, planOf}
+use Rattle.derivatives.specs.Plan.{planPowi, planPowf, isSmall, small, planOf}
 
 module _ (re : Float) (f : Function) (p : Plan) where
   -- the plan of what f is
@@ -34,12 +34,12 @@ module _ (re : Float) (f : Function) (p : Plan) where
   pub planned-j2 : (s c : Float) (u v : Series) → f ≡ SphJ2 s c → u ≡ sinSeries s c → v ≡ cosSeries s c → p ≡ small re SmallJ2 (BesselJ2 u v) → p ≡ planOf re f
   planned-j2 s c u v told e g h = rw (told, ← e, ← g) h
 
--- small or not: a is |re|, as `abs` gives it
-module _ (re a : Float) (plan other : Plan) where
-  pub small-taken : a ≡ absOf re → lt a epsilon ≡ true → plan ≡ small re plan other
+-- small or not: b is what `is_small` gives
+module _ (re : Float) (b : Bool) (plan other : Plan) where
+  pub small-taken : b ≡ isSmall re → b ≡ true → plan ≡ small re plan other
   small-taken told e = rw (← told, e)
 
-  pub small-left : a ≡ absOf re → lt a epsilon ≡ false → other ≡ small re plan other
+  pub small-left : b ≡ isSmall re → b ≡ false → other ≡ small re plan other
   small-left told e = rw (← told, e)
 
 -- the exponents of powf: zero, one, near two, any other; a is |n - 1 - 1|, as `abs` gives it

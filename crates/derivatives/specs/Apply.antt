@@ -1,16 +1,19 @@
 -- What a record makes of a plan, over any record by its `Algebra`: written once for the five record types. Definitions only.
+use Prim.Native.Nat.{ℕ}
 use mathlib.Core.Bool.{cond}
+use lib.Dec.{eqb}
 use lib.Ieee.{Float, lt, eq}
-use Rattle.real.specs.Operations.{zero, three, six, fifteen}
+use Rattle.refusals.specs.Number as refusal
+use Rattle.real.specs.Operations.{zero, three, six, fifteen, thirty}
 use Rattle.real.specs.Sign.{signOf}
 use Rattle.algebra.specs.Algebra.{Algebra, zeroOf, oneOf}
 use Rattle.algebra.specs.Outcome.{Outcome, value, refused}
 use Rattle.derivatives.specs.declared.Series.{Series}
 use Rattle.derivatives.specs.declared.Function.{Function}
 use Rattle.derivatives.specs.declared.Plan.{Plan}
-use Rattle.derivatives.specs.declared.Plan.the-variants.{Refused, One, Same, Square, Chain, Quotient, SmallJ0, SmallJ1, SmallJ2, BesselJ0, BesselJ1, BesselJ2}
+use Rattle.derivatives.specs.declared.Plan.the-variants.{Refused, One, Same, Square, Chain, Quotient, SmallJ0, SmallJ1, SmallJ2, BesselJ0, BesselJ1, BesselJ2, CubicJ1}
 use Rattle.derivatives.specs.Series.{recipSeries, sqrtSeries, expSeries, lnSeries, sinSeries, cosSeries, atanSeries}
-use Rattle.derivatives.specs.Plan.{planOf}
+use Rattle.derivatives.specs.Plan.{isSmall, planOf}
 
 module _ {R : Type 0} (A : Algebra R) where
   -- the chain rule with the derivatives of s
@@ -35,24 +38,33 @@ module _ {R : Type 0} (A : Algebra R) where
       let s2 = A .mul x x in
       A .div (A .sub (A .mulFloat (A .sub s (A .mul x c)) three) (A .mul s2 s)) (A .mul s2 x)
 
-  -- the outcome of a plan
-  abbrev pub runPlan : R → Plan → Outcome R
-  runPlan x (Refused n) = refused n
-  runPlan x One = value (oneOf A)
-  runPlan x Same = value x
-  runPlan x Square = value (A .mul x x)
-  runPlan x (Chain s) = value (chainBy x s)
-  runPlan x (Quotient s t) = value (A .div (chainBy x s) (chainBy x t))
-  runPlan x SmallJ0 = value (smallJ0 x)
-  runPlan x SmallJ1 = value (A .divFloat x three)
-  runPlan x SmallJ2 = value (smallJ2 x)
-  runPlan x (BesselJ0 s) = value (A .div (chainBy x s) x)
-  runPlan x (BesselJ1 s t) = value (besselJ1 x (chainBy x s) (chainBy x t))
-  runPlan x (BesselJ2 s t) = value (besselJ2 x (chainBy x s) (chainBy x t))
+  -- the first two terms of the series of sph_j1: x / 3 - x * x * x / 30 (BesselTerms)
+  abbrev pub cubicJ1 : R → R
+  cubicJ1 x = A .sub (A .divFloat x three) (A .divFloat (A .mul (A .mul x x) x) thirty)
+
+  -- sph_j1_series: those terms where re is small, else what sph_j1 gives
+  abbrev pub sphJ1SeriesOf : R → Float → Float → R
+  sphJ1SeriesOf x s c = cond (isSmall (A .re x)) (cubicJ1 x) (besselJ1 x (chainBy x (sinSeries s c)) (chainBy x (cosSeries s c)))
+
+  -- the outcome of a plan, for a record that carries `nderiv` derivatives; sph_j1_series is refused 2 where it carries no third one
+  abbrev pub runPlan : ℕ → R → Plan → Outcome R
+  runPlan nderiv x (Refused n) = refused n
+  runPlan nderiv x One = value (oneOf A)
+  runPlan nderiv x Same = value x
+  runPlan nderiv x Square = value (A .mul x x)
+  runPlan nderiv x (Chain s) = value (chainBy x s)
+  runPlan nderiv x (Quotient s t) = value (A .div (chainBy x s) (chainBy x t))
+  runPlan nderiv x SmallJ0 = value (smallJ0 x)
+  runPlan nderiv x SmallJ1 = value (A .divFloat x three)
+  runPlan nderiv x SmallJ2 = value (smallJ2 x)
+  runPlan nderiv x (BesselJ0 s) = value (A .div (chainBy x s) x)
+  runPlan nderiv x (BesselJ1 s t) = value (besselJ1 x (chainBy x s) (chainBy x t))
+  runPlan nderiv x (BesselJ2 s t) = value (besselJ2 x (chainBy x s) (chainBy x t))
+  runPlan nderiv x (CubicJ1 s c) = cond (eqb nderiv 3) (value (sphJ1SeriesOf x s c)) (refused refusal.wrongLength)
 
   -- a request's outcome
-  abbrev pub applyOf : R → Function → Outcome R
-  applyOf x f = runPlan x (planOf (A .re x) f)
+  abbrev pub applyOf : ℕ → R → Function → Outcome R
+  applyOf nderiv x f = runPlan nderiv x (planOf (A .re x) f)
 
   abbrev pub recipOf : R → R
   recipOf x = chainBy x (recipSeries (A .re x))

@@ -9,9 +9,9 @@ use Rattle.refusals.specs.Number as refusal
 use Rattle.real.specs.Operations.{_⊖_, zero, one, epsilon}
 use Rattle.real.specs.Sign.{absOf}
 use Rattle.derivatives.specs.declared.Function.{Function}
-use Rattle.derivatives.specs.declared.Function.the-variants.{Recip, Powi, Powf, Sqrt, Cbrt, Exp, Exp2, ExpM1, Ln, Log, Log2, Log10, Ln1p, Sin, Cos, Tan, Asin, Acos, Atan, Sinh, Cosh, Tanh, Asinh, Acosh, Atanh, SphJ0, SphJ1, SphJ2}
+use Rattle.derivatives.specs.declared.Function.the-variants.{Recip, Powi, Powf, Sqrt, Cbrt, Exp, Exp2, ExpM1, Ln, Log, Log2, Log10, Ln1p, Sin, Cos, Tan, Asin, Acos, Atan, Sinh, Cosh, Tanh, Asinh, Acosh, Atanh, SphJ0, SphJ1, SphJ2, SphJ1Series}
 use Rattle.derivatives.specs.declared.Plan.{Plan}
-use Rattle.derivatives.specs.declared.Plan.the-variants.{Refused, One, Same, Square, Chain, Quotient, SmallJ0, SmallJ1, SmallJ2, BesselJ0, BesselJ1, BesselJ2}
+use Rattle.derivatives.specs.declared.Plan.the-variants.{Refused, One, Same, Square, Chain, Quotient, SmallJ0, SmallJ1, SmallJ2, BesselJ0, BesselJ1, BesselJ2, CubicJ1}
 use Rattle.derivatives.specs.Series.{recipSeries, powiSeries, powfSeries, sqrtSeries, cbrtSeries, expSeries, exp2Series, expM1Series, lnSeries, logSeries, log2Series, log10Series, ln1pSeries, sinSeries, cosSeries, asinSeries, acosSeries, atanSeries, sinhSeries, coshSeries, asinhSeries, acoshSeries, atanhSeries}
 
 -- a = b
@@ -39,9 +39,13 @@ planPowf re n pow3 =
     (cond (lt (absOf (n ⊖ one ⊖ one)) epsilon) Square
     (Chain (powfSeries re n pow3))))
 
--- small where |re| < 2 ^ -52
+-- |re| < 2 ^ -52
+abbrev pub isSmall : Float → Bool
+isSmall re = lt (absOf re) epsilon
+
+-- the plan where re is small, else the other
 abbrev pub small : Float → Plan → Plan → Plan
-small re plan other = cond (lt (absOf re) epsilon) plan other
+small re plan other = cond (isSmall re) plan other
 
 -- the plan of each request
 abbrev pub planOf : Float → Function → Plan
@@ -73,3 +77,4 @@ planOf re (Atanh atanh) = Chain (atanhSeries re atanh)
 planOf re (SphJ0 s c) = small re SmallJ0 (BesselJ0 (sinSeries s c))
 planOf re (SphJ1 s c) = small re SmallJ1 (BesselJ1 (sinSeries s c) (cosSeries s c))
 planOf re (SphJ2 s c) = small re SmallJ2 (BesselJ2 (sinSeries s c) (cosSeries s c))
+planOf re (SphJ1Series s c) = CubicJ1 s c

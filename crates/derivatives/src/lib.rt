@@ -1,10 +1,10 @@
-// The elementary functions of impl_derivatives.rs, once for the five record types: the series f0 to f3 of each function at a real part, the
-// requests, and the plan that a record follows for a request.
+// The elementary functions of impl_derivatives.rs and sph_j1_series, once for the five record types: the series f0 to f3 of each function at a real
+// part, the requests, and the plan that a record follows for a request.
 ghost use mathlib.Core.Path.{_≡_};
 ghost use Prim.Native.Nat.{_≤_};
 ghost use lib.IntN.{natAbs};
 ghost use Rattle.refusals.specs.Largest as largest;
-ghost use Rattle.derivatives.specs.Plan.{planOf, planPowi, planPowf, small};
+ghost use Rattle.derivatives.specs.Plan.{planOf, planPowi, planPowf, isSmall, small};
 ghost use Rattle.derivatives.specs.Series.{recipSeries, powiSeries, powfSeries, sqrtSeries, cbrtSeries, expSeries, exp2Series, expM1Series, logarithmSeries, lnSeries, logSeries, log2Series, log10Series, ln1pSeries, sinSeries, cosSeries, asinSeries, acosSeries, atanSeries, sinhSeries, coshSeries, asinhSeries, acoshSeries, atanhSeries};
 
 const THIRD: f64 = 1.0 / 3.0;
@@ -54,6 +54,8 @@ pub enum Function {
     SphJ0 { sin: f64, cos: f64 },
     SphJ1 { sin: f64, cos: f64 },
     SphJ2 { sin: f64, cos: f64 },
+    // for records with third derivatives alone
+    SphJ1Series { sin: f64, cos: f64 },
 }
 
 // What a record x does for a request.
@@ -76,6 +78,8 @@ pub enum Plan {
     BesselJ0(Series),
     BesselJ1(Series, Series),
     BesselJ2(Series, Series),
+    // sph_j1_series, with its sine and cosine: for records with third derivatives alone
+    CubicJ1 { sin: f64, cos: f64 },
 }
 
 impl Series {
@@ -374,6 +378,7 @@ pub fn choose(re: f64, f: Function) -> Plan
             Plan::SmallJ2,
             Plan::BesselJ2(Series::sin(s, c), Series::cos(s, c)),
         ),
+        Function::SphJ1Series { sin: s, cos: c } => Plan::CubicJ1 { sin: s, cos: c },
     }
 }
 
@@ -409,9 +414,16 @@ fn plan_powf(re: f64, n: f64, pow3: f64) -> Plan
     Plan::Chain(Series::powf(re, n, pow3))
 }
 
-// `plan` where |re| is below 2^-52, else `other`.
+// Whether |re| is below 2^-52, where the three sph_j are the beginnings of their series.
+pub fn is_small(re: f64) -> bool
+    ensures { λ r. ⌜ r ≡ isSmall re ⌝ }
+{
+    real::abs(re) < EPSILON
+}
+
+// `plan` where re is small, else `other`.
 fn small(re: f64, plan: Plan, other: Plan) -> Plan
     ensures { λ r. ⌜ r ≡ small re plan other ⌝ }
 {
-    if real::abs(re) < EPSILON { plan } else { other }
+    if is_small(re) { plan } else { other }
 }

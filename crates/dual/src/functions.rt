@@ -7,7 +7,7 @@ use derivatives::Plan;
 use derivatives::Series;
 ghost use mathlib.Core.Path.{_≡_};
 ghost use Rattle.derivatives.specs.Apply.{chainBy, smallJ0, smallJ2, besselJ1, besselJ2, runPlan, applyOf, recipOf, sqrtOf, sinOf, cosOf, atan2Of, mulAddOf, powdOf};
-ghost use Rattle.dual.specs.Rules.{dualMulFloat, dualAlgebra, dualSinCos, outcome};
+ghost use Rattle.dual.specs.Rules.{dualMulFloat, dualNderiv, dualAlgebra, dualSinCos, outcome};
 
 impl Dual {
     // The chain rule with as many derivatives of a series as the record carries.
@@ -75,15 +75,15 @@ impl Dual {
             .chain(Series::exp(exp))
     }
 
-    // Any function of impl_derivatives.rs, with the outside floats that it needs.
+    // Any function of impl_derivatives.rs, with the outside floats that it needs; sph_j1_series is for records with third derivatives.
     pub fn apply(self, f: Function) -> DualAnswer
-        ensures { λ r. ⌜ outcome r ≡ applyOf dualAlgebra self f ⌝ }
+        ensures { λ r. ⌜ outcome r ≡ applyOf dualAlgebra dualNderiv self f ⌝ }
     {
         self.run(derivatives::choose(self.re, f))
     }
 
     fn run(self, p: Plan) -> DualAnswer
-        ensures { λ r. ⌜ outcome r ≡ runPlan dualAlgebra self p ⌝ }
+        ensures { λ r. ⌜ outcome r ≡ runPlan dualAlgebra dualNderiv self p ⌝ }
     {
         match p {
             Plan::Refused(n) => DualAnswer::Refused(n),
@@ -98,6 +98,7 @@ impl Dual {
             Plan::BesselJ0(s) => DualAnswer::Value(self.chain(s).div(self)),
             Plan::BesselJ1(s, t) => DualAnswer::Value(self.bessel_j1(self.chain(s), self.chain(t))),
             Plan::BesselJ2(s, t) => DualAnswer::Value(self.bessel_j2(self.chain(s), self.chain(t))),
+            Plan::CubicJ1 { sin: _, cos: _ } => DualAnswer::Refused(refusals::WRONG_LENGTH),
         }
     }
 

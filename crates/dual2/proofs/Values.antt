@@ -9,6 +9,6 @@ use Rattle.derivatives.specs.Apply.{applyOf}
 use Rattle.dual2.specs.Rules.{dual2, dual2FromRe, dual2Derivative, dual2Mul, dual2Algebra}
 
 -- 5 with its derivative part set to 1, powi 2, is (25, 10, 2): x², 2x, 2
-square : applyOf dual2Algebra (dual2Derivative (dual2FromRe (ofBits binary64 0x4014_0000_0000_0000))) (Powi (pos 2) zero) ≡ value (dual2 (ofBits binary64 0x4039_0000_0000_0000) ten two)
+square : applyOf dual2Algebra 2 (dual2Derivative (dual2FromRe (ofBits binary64 0x4014_0000_0000_0000))) (Powi (pos 2) zero) ≡ value (dual2 (ofBits binary64 0x4039_0000_0000_0000) ten two)
 unfolding dual2Mul mul add ofBits
 square = refl

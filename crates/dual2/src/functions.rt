@@ -7,7 +7,7 @@ use derivatives::Plan;
 use derivatives::Series;
 ghost use mathlib.Core.Path.{_≡_};
 ghost use Rattle.derivatives.specs.Apply.{chainBy, smallJ0, smallJ2, besselJ1, besselJ2, runPlan, applyOf, recipOf, sqrtOf, sinOf, cosOf, atan2Of, mulAddOf, powdOf};
-ghost use Rattle.dual2.specs.Rules.{dual2MulFloat, dual2Algebra, dual2SinCos, outcome};
+ghost use Rattle.dual2.specs.Rules.{dual2MulFloat, dual2Nderiv, dual2Algebra, dual2SinCos, outcome};
 
 impl Dual2 {
     // The chain rule with as many derivatives of a series as the record carries.
@@ -75,15 +75,15 @@ impl Dual2 {
             .chain(Series::exp(exp))
     }
 
-    // Any function of impl_derivatives.rs, with the outside floats that it needs.
+    // Any function of impl_derivatives.rs, with the outside floats that it needs; sph_j1_series is for records with third derivatives.
     pub fn apply(self, f: Function) -> Dual2Answer
-        ensures { λ r. ⌜ outcome r ≡ applyOf dual2Algebra self f ⌝ }
+        ensures { λ r. ⌜ outcome r ≡ applyOf dual2Algebra dual2Nderiv self f ⌝ }
     {
         self.run(derivatives::choose(self.re, f))
     }
 
     fn run(self, p: Plan) -> Dual2Answer
-        ensures { λ r. ⌜ outcome r ≡ runPlan dual2Algebra self p ⌝ }
+        ensures { λ r. ⌜ outcome r ≡ runPlan dual2Algebra dual2Nderiv self p ⌝ }
     {
         match p {
             Plan::Refused(n) => Dual2Answer::Refused(n),
@@ -104,6 +104,7 @@ impl Dual2 {
                 self.chain(s),
                 self.chain(t),
             )),
+            Plan::CubicJ1 { sin: _, cos: _ } => Dual2Answer::Refused(refusals::WRONG_LENGTH),
         }
     }
 

@@ -4,7 +4,7 @@ use mathlib.Core.List.{List, [], _∷_}
 use Rattle.refusals.specs.Number as refusal
 use Rattle.algebra.specs.Outcome.{Outcome, value, refused}
 use Rattle.dual2.specs.declared.Dual2.{Dual2}
-use Rattle.dual2.specs.Rules.{dual2Algebra, dual2Layout, dual2Derivative}
+use Rattle.dual2.specs.Rules.{dual2Nderiv, dual2Algebra, dual2Layout, dual2Derivative}
 use Rattle.calls.specs.Table.{find}
 use Rattle.calls.specs.Called.{Kind}
 
@@ -18,4 +18,4 @@ dual2Derivatives function x = find function (dual2DerivativeTable x) (refused re
 
 -- what calls use of the record
 abbrev pub dual2Kind : Kind Dual2
-dual2Kind = record { algebra = dual2Algebra; layout = dual2Layout; derivative = dual2Derivatives }
+dual2Kind = record { algebra = dual2Algebra; layout = dual2Layout; nderiv = dual2Nderiv; derivative = dual2Derivatives }

@@ -119,6 +119,9 @@ mul-add-only κs a x y v w h p q = (p ∙ sym q, refl)
 pub powd-only : Only 0 method.powd.Kinds.ps method.powd.Kinds.r method.powd.Reads.Pre method.powd.Reads.Post
 powd-only κs a x y v w h p q = (p ∙ sym q, refl)
 
+pub sph-j1-series-only : Only 0 method.«sph_j1_series».Kinds.ps method.«sph_j1_series».Kinds.r method.«sph_j1_series».Reads.Pre method.«sph_j1_series».Reads.Post
+sph-j1-series-only κs a x y v w h p q = (p ∙ sym q, refl)
+
 pub apply-only : Only 0 method.apply.Kinds.ps method.apply.Kinds.r method.apply.Reads.Pre method.apply.Reads.Post
 apply-only κs a x y v w h p q = (outcome-one x y (p ∙ sym q), refl)
 

@@ -4,7 +4,7 @@ use mathlib.Core.List.{List, [], _∷_}
 use Rattle.refusals.specs.Number as refusal
 use Rattle.algebra.specs.Outcome.{Outcome, value, refused}
 use Rattle.dual3.specs.declared.Dual3.{Dual3}
-use Rattle.dual3.specs.Rules.{dual3Algebra, dual3Layout, dual3Derivative}
+use Rattle.dual3.specs.Rules.{dual3Nderiv, dual3Algebra, dual3Layout, dual3Derivative}
 use Rattle.calls.specs.Table.{find}
 use Rattle.calls.specs.Called.{Kind}
 
@@ -18,4 +18,4 @@ dual3Derivatives function x = find function (dual3DerivativeTable x) (refused re
 
 -- what calls use of the record
 abbrev pub dual3Kind : Kind Dual3
-dual3Kind = record { algebra = dual3Algebra; layout = dual3Layout; derivative = dual3Derivatives }
+dual3Kind = record { algebra = dual3Algebra; layout = dual3Layout; nderiv = dual3Nderiv; derivative = dual3Derivatives }

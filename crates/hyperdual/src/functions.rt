@@ -7,7 +7,7 @@ use derivatives::Plan;
 use derivatives::Series;
 ghost use mathlib.Core.Path.{_≡_};
 ghost use Rattle.derivatives.specs.Apply.{chainBy, smallJ0, smallJ2, besselJ1, besselJ2, runPlan, applyOf, recipOf, sqrtOf, sinOf, cosOf, atan2Of, mulAddOf, powdOf};
-ghost use Rattle.hyperdual.specs.Rules.{hyperDualMulFloat, hyperDualAlgebra, hyperDualSinCos, outcome};
+ghost use Rattle.hyperdual.specs.Rules.{hyperDualMulFloat, hyperDualNderiv, hyperDualAlgebra, hyperDualSinCos, outcome};
 
 impl HyperDual {
     // The chain rule with as many derivatives of a series as the record carries.
@@ -75,15 +75,15 @@ impl HyperDual {
             .chain(Series::exp(exp))
     }
 
-    // Any function of impl_derivatives.rs, with the outside floats that it needs.
+    // Any function of impl_derivatives.rs, with the outside floats that it needs; sph_j1_series is for records with third derivatives.
     pub fn apply(self, f: Function) -> HyperDualAnswer
-        ensures { λ r. ⌜ outcome r ≡ applyOf hyperDualAlgebra self f ⌝ }
+        ensures { λ r. ⌜ outcome r ≡ applyOf hyperDualAlgebra hyperDualNderiv self f ⌝ }
     {
         self.run(derivatives::choose(self.re, f))
     }
 
     fn run(self, p: Plan) -> HyperDualAnswer
-        ensures { λ r. ⌜ outcome r ≡ runPlan hyperDualAlgebra self p ⌝ }
+        ensures { λ r. ⌜ outcome r ≡ runPlan hyperDualAlgebra hyperDualNderiv self p ⌝ }
     {
         match p {
             Plan::Refused(n) => HyperDualAnswer::Refused(n),
@@ -104,6 +104,7 @@ impl HyperDual {
                 self.chain(s),
                 self.chain(t),
             )),
+            Plan::CubicJ1 { sin: _, cos: _ } => HyperDualAnswer::Refused(refusals::WRONG_LENGTH),
         }
     }
 

@@ -4,7 +4,7 @@ use mathlib.Core.List.{List, [], _∷_}
 use Rattle.refusals.specs.Number as refusal
 use Rattle.algebra.specs.Outcome.{Outcome, value, refused}
 use Rattle.hyperdual.specs.declared.HyperDual.{HyperDual}
-use Rattle.hyperdual.specs.Rules.{hyperDualAlgebra, hyperDualLayout, hyperDualDerivative1, hyperDualDerivative2}
+use Rattle.hyperdual.specs.Rules.{hyperDualNderiv, hyperDualAlgebra, hyperDualLayout, hyperDualDerivative1, hyperDualDerivative2}
 use Rattle.calls.specs.Table.{find}
 use Rattle.calls.specs.Called.{Kind}
 
@@ -18,4 +18,4 @@ hyperDualDerivatives function x = find function (hyperDualDerivativeTable x) (re
 
 -- what calls use of the record
 abbrev pub hyperDualKind : Kind HyperDual
-hyperDualKind = record { algebra = hyperDualAlgebra; layout = hyperDualLayout; derivative = hyperDualDerivatives }
+hyperDualKind = record { algebra = hyperDualAlgebra; layout = hyperDualLayout; nderiv = hyperDualNderiv; derivative = hyperDualDerivatives }

@@ -22,7 +22,7 @@ z = hyperHyperDualDerivative3 (hyperHyperDualFromRe (fromInt (pos 3)))
 
 -- third_partial_derivative: (x * x + y * y + z * z) powi 3 with 1 supplied, at x = 1, y = 2, z = 3
 third-partial-derivative :
-    applyOf hyperHyperDualAlgebra (hyperHyperDualAdd (hyperHyperDualAdd (hyperHyperDualMul x x) (hyperHyperDualMul y y)) (hyperHyperDualMul z z)) (Powi (pos 3) one)
+    applyOf hyperHyperDualAlgebra 3 (hyperHyperDualAdd (hyperHyperDualAdd (hyperHyperDualMul x x) (hyperHyperDualMul y y)) (hyperHyperDualMul z z)) (Powi (pos 3) one)
     ≡ value (hyperHyperDual (fromInt (pos 2744)) (fromInt (pos 1176)) (fromInt (pos 2352)) (fromInt (pos 3528)) (fromInt (pos 672)) (fromInt (pos 1008)) (fromInt (pos 2016)) (fromInt (pos 288)))
 unfolding hyperHyperDualChain hyperHyperDualMul hyperHyperDualAdd powiSeries add mul ofBits ofInt
 third-partial-derivative = refl

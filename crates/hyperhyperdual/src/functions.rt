@@ -1,4 +1,4 @@
-// The functions of impl_derivatives.rs, each by its series or its plan; `mul_add` and `powd` are lib.rs's.
+// The functions of impl_derivatives.rs, each by its series or its plan; `mul_add` and `powd` are lib.rs's, `sph_j1_series` is document 02's.
 use crate::HyperHyperDual;
 use crate::HyperHyperDualAnswer;
 use crate::HyperHyperDualSinCos;
@@ -6,8 +6,8 @@ use derivatives::Function;
 use derivatives::Plan;
 use derivatives::Series;
 ghost use mathlib.Core.Path.{_≡_};
-ghost use Rattle.derivatives.specs.Apply.{chainBy, smallJ0, smallJ2, besselJ1, besselJ2, runPlan, applyOf, recipOf, sqrtOf, sinOf, cosOf, atan2Of, mulAddOf, powdOf};
-ghost use Rattle.hyperhyperdual.specs.Rules.{hyperHyperDualMulFloat, hyperHyperDualAlgebra, hyperHyperDualSinCos, outcome};
+ghost use Rattle.derivatives.specs.Apply.{chainBy, smallJ0, smallJ2, besselJ1, besselJ2, cubicJ1, sphJ1SeriesOf, runPlan, applyOf, recipOf, sqrtOf, sinOf, cosOf, atan2Of, mulAddOf, powdOf};
+ghost use Rattle.hyperhyperdual.specs.Rules.{hyperHyperDualMulFloat, hyperHyperDualNderiv, hyperHyperDualAlgebra, hyperHyperDualSinCos, outcome};
 
 impl HyperHyperDual {
     // The chain rule with as many derivatives of a series as the record carries.
@@ -75,15 +75,27 @@ impl HyperHyperDual {
             .chain(Series::exp(exp))
     }
 
-    // Any function of impl_derivatives.rs, with the outside floats that it needs.
+    // sph_j1 with the cubic of its series for small re, which the source leaves out; `sin` and `cos` are the sine and the cosine of re.
+    pub fn sph_j1_series(self, sin: f64, cos: f64) -> Self
+        ensures { λ r. ⌜ r ≡ sphJ1SeriesOf hyperHyperDualAlgebra self sin cos ⌝ }
+    {
+        if derivatives::is_small(self.re) {
+            return self.cubic_j1();
+        }
+        let s = self.chain(Series::sin(sin, cos));
+        let c = self.chain(Series::cos(sin, cos));
+        self.bessel_j1(s, c)
+    }
+
+    // Any function of impl_derivatives.rs, or sph_j1_series, with the outside floats that it needs.
     pub fn apply(self, f: Function) -> HyperHyperDualAnswer
-        ensures { λ r. ⌜ outcome r ≡ applyOf hyperHyperDualAlgebra self f ⌝ }
+        ensures { λ r. ⌜ outcome r ≡ applyOf hyperHyperDualAlgebra hyperHyperDualNderiv self f ⌝ }
     {
         self.run(derivatives::choose(self.re, f))
     }
 
     fn run(self, p: Plan) -> HyperHyperDualAnswer
-        ensures { λ r. ⌜ outcome r ≡ runPlan hyperHyperDualAlgebra self p ⌝ }
+        ensures { λ r. ⌜ outcome r ≡ runPlan hyperHyperDualAlgebra hyperHyperDualNderiv self p ⌝ }
     {
         match p {
             Plan::Refused(n) => HyperHyperDualAnswer::Refused(n),
@@ -104,6 +116,7 @@ impl HyperHyperDual {
                 self.chain(s),
                 self.chain(t),
             )),
+            Plan::CubicJ1 { sin, cos } => HyperHyperDualAnswer::Value(self.sph_j1_series(sin, cos)),
         }
     }
 
@@ -117,6 +130,13 @@ impl HyperHyperDual {
         ensures { λ r. ⌜ r ≡ smallJ2 hyperHyperDualAlgebra self ⌝ }
     {
         self.mul(self).div_float(15.0)
+    }
+
+    fn cubic_j1(self) -> Self
+        ensures { λ r. ⌜ r ≡ cubicJ1 hyperHyperDualAlgebra self ⌝ }
+    {
+        let cube = self.mul(self).mul(self);
+        self.div_float(3.0).sub(cube.div_float(30.0))
     }
 
     fn bessel_j1(self, s: HyperHyperDual, c: HyperHyperDual) -> Self

@@ -4,7 +4,7 @@ use mathlib.Core.List.{List, [], _∷_}
 use Rattle.refusals.specs.Number as refusal
 use Rattle.algebra.specs.Outcome.{Outcome, value, refused}
 use Rattle.hyperhyperdual.specs.declared.HyperHyperDual.{HyperHyperDual}
-use Rattle.hyperhyperdual.specs.Rules.{hyperHyperDualAlgebra, hyperHyperDualLayout, hyperHyperDualDerivative1, hyperHyperDualDerivative2, hyperHyperDualDerivative3}
+use Rattle.hyperhyperdual.specs.Rules.{hyperHyperDualNderiv, hyperHyperDualAlgebra, hyperHyperDualLayout, hyperHyperDualDerivative1, hyperHyperDualDerivative2, hyperHyperDualDerivative3}
 use Rattle.calls.specs.Table.{find}
 use Rattle.calls.specs.Called.{Kind}
 
@@ -18,4 +18,4 @@ hyperHyperDualDerivatives function x = find function (hyperHyperDualDerivativeTa
 
 -- what calls use of the record
 abbrev pub hyperHyperDualKind : Kind HyperHyperDual
-hyperHyperDualKind = record { algebra = hyperHyperDualAlgebra; layout = hyperHyperDualLayout; derivative = hyperHyperDualDerivatives }
+hyperHyperDualKind = record { algebra = hyperHyperDualAlgebra; layout = hyperHyperDualLayout; nderiv = hyperHyperDualNderiv; derivative = hyperHyperDualDerivatives }

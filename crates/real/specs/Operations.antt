@@ -51,6 +51,10 @@ ten = ofBits binary64 0x4024_0000_0000_0000
 abbrev pub fifteen : Float
 fifteen = ofBits binary64 0x402e_0000_0000_0000
 
+-- 30.0
+abbrev pub thirty : Float
+thirty = ofBits binary64 0x403e_0000_0000_0000
+
 -- the float nearest 1/3
 abbrev pub third : Float
 third = ofBits binary64 0x3fd5_5555_5555_5555

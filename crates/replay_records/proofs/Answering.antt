@@ -57,10 +57,14 @@ module _ (kind : Kind) (function : ℕ) (exponent : ℤ) (records floats : List 
     unfolding answerOf
     answers-call h = rw (ne-eqb _ _ not-nderiv, ne-eqb _ _ not-sum, ne-eqb _ _ not-product, lt-ltb _ _ h) (rw (toZ-ofZ w32 exponent fits) at e)
 
-    pub answers-truth : (t : ℕ) → 0x3b ≤ function → t ≡ truthOf (getD left 0 0) → (number, set left 0 t) ≡ answerOf kind function exponent records floats count lent out
+    pub answers-call-after : 0x3b ≤ function → 0x43 < function → (number, left) ≡ answerOf kind function exponent records floats count lent out
     unfolding answerOf
-    answers-truth t h f =
-        rw (ne-eqb _ _ not-nderiv, ne-eqb _ _ not-sum, ne-eqb _ _ not-product, le-ltb _ _ h)
+    answers-call-after h g = rw (ne-eqb _ _ not-nderiv, ne-eqb _ _ not-sum, ne-eqb _ _ not-product, le-ltb _ _ h, lt-ltb _ _ g) (rw (toZ-ofZ w32 exponent fits) at e)
+
+    pub answers-truth : (t : ℕ) → 0x3b ≤ function → function ≤ 0x43 → t ≡ truthOf (getD left 0 0) → (number, set left 0 t) ≡ answerOf kind function exponent records floats count lent out
+    unfolding answerOf
+    answers-truth t h g f =
+        rw (ne-eqb _ _ not-nderiv, ne-eqb _ _ not-sum, ne-eqb _ _ not-product, le-ltb _ _ h, le-ltb _ _ g)
         (as-truth number left t _ (rw (toZ-ofZ w32 exponent fits) at e) f)
 
 -- A case is the same where its answer is and its method's is: the answer that is compared is the record type's.

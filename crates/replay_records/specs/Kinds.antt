@@ -52,14 +52,15 @@ joinedOf kind function records count left =
     let given = cond (eqb function 0x39) (summedBy kind run left) (multipliedBy kind run left) in
     (given .0, wordsOf (given .1))
 
--- NDERIV (03), the sum and the product (39, 3a), else the call; from 3b on it gives a truth, which is recorded as 1 or 0
+-- NDERIV (03), the sum and the product (39, 3a), else the call; from 3b to 43 it gives a truth, which is recorded as 1 or 0
 unfoldable pub answerOf : Kind → ℕ → ℤ → List ℕ → List ℕ → ℕ → List Float → List ℕ → ℕ × List ℕ
 answerOf kind function exponent records floats count left out =
     let called = calledBy kind function exponent records floats out in
     cond (eqb function 0x03) (0, set out 0 (nderivOf kind))
     (cond (eqb function 0x39) (joinedOf kind function records count left)
     (cond (eqb function 0x3a) (joinedOf kind function records count left)
-    (cond (ltb function 0x3b) called (called .0, set (called .1) 0 (truthOf (getD (called .1) 0 0))))))
+    (cond (ltb function 0x3b) called
+    (cond (ltb 0x43 function) called (called .0, set (called .1) 0 (truthOf (getD (called .1) 0 0)))))))
 
 -- what the record's own method gives, where the function has one beside its call, is the recorded answer
 abbrev pub sameMethodOf : Kind → ℕ → List ℕ → List ℕ → List ℕ → Bool

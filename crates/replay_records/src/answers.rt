@@ -15,8 +15,10 @@ const SUM: u32 = 0x39;
 
 const PRODUCT: u32 = 0x3a;
 
-// The predicates come from here on.
+// The predicates are from the first of these to the last.
 const PREDICATES: u32 = 0x3b;
+
+const LAST_PREDICATE: u32 = 0x43;
 
 // The sum or the product of a run, in lent floats.
 fn joined(
@@ -68,6 +70,9 @@ pub(crate) fn answer(
     }
     let number = kinds::call(kind, function, exponent, records, floats, out);
     if function < PREDICATES {
+        return number;
+    }
+    if LAST_PREDICATE < function {
         return number;
     }
     out[0] = replay_table::truth(out[0]);

@@ -39,6 +39,7 @@ table =
     0xf001 ∷ 0xf001 ∷  -- 39: sum, product
     0x2000 ∷ 0x2000 ∷ 0x2000 ∷ 0x2000 ∷ 0x2000 ∷  -- 3b: eq, lt, le, gt, ge
     0x1000 ∷ 0x1000 ∷ 0x1000 ∷ 0x1000 ∷  -- 40: is_negative, is_positive, is_zero, is_one
+    0x1021 ∷  -- 44: sph_j1_series
     []
 
 -- the line of a number: 0000 where there is none

@@ -1,2 +1,2 @@
--- The one statement over document 01's table.
+-- The statements over the two tables.
 mod Computed

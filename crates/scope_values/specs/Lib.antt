@@ -1,2 +1,2 @@
--- Document 01's values. Definitions only.
+-- The values of documents 01 and 02. Definitions only.
 pub mod Table

@@ -1,21 +1,23 @@
--- Document 01's values P1 to P12 as one table: in each claim what the definitions give, and what the document says, as numbers. A float is its word.
--- Definitions only.
+-- Document 01's values P1 to P12 as one table, and those of document 02's wishes as another: in each claim what the definitions give, and what the
+-- document says, as numbers. A float is its word. Definitions only.
 use Prim.Native.Nat.{ℕ, _*_}
 use mathlib.Core.Bool.{Bool, true, false, _&&_}
 use mathlib.Core.List.{List, [], _∷_, _++_, map}
 use lib.Dec.{eqb}
 use lib.ListN.{replicate}
 use lib.IntN.{pos, negsuc}
-use lib.Ieee.{Float, binary64, ofBits, toBits}
+use lib.Ieee.{Float, binary64, ofBits, toBits, round}
 use Rattle.real.specs.Operations as float
 use Rattle.real.specs.Root.{sqrtOf}
 use Rattle.algebra.specs.Outcome.{Outcome, value, refused, numberOf}
 use Rattle.derivatives.specs.Apply as apply
-use Rattle.derivatives.specs.declared.Function.the-variants.{Powi}
+use Rattle.derivatives.specs.declared.Function.the-variants.{Powi, SphJ1, SphJ1Series}
 use Rattle.dual.specs.declared.Dual.{Dual}
 use Rattle.dual.specs.Rules.{dual, dualDiv, dualAlgebra, dualLayout}
 use Rattle.dual3.specs.declared.Dual3.{Dual3}
-use Rattle.dual3.specs.Rules.{dual3, dual3Algebra}
+use Rattle.dual3.specs.Rules.{dual3, dual3Mul, dual3Sub, dual3DivFloat, dual3Algebra}
+use Rattle.hyperhyperdual.specs.declared.HyperHyperDual.{HyperHyperDual}
+use Rattle.hyperhyperdual.specs.Rules.{hyperHyperDual, hyperHyperDualAlgebra, hyperHyperDualLayout}
 use Rattle.matrices.specs.Lu.{countUp}
 use Rattle.matrices.specs.Entries.{LuLeft, SolveLeft, luLeft, solveLeft, inverseLeft, determinantLeft}
 use Rattle.jacobi.specs.Entry.{JacobiLeft, jacobiLeft}
@@ -62,6 +64,10 @@ dualWords (refused n) = n ∷ []
 abbrev pub dual3Words : Outcome Dual3 → List ℕ
 dual3Words (value x) = 0 ∷ words (x .re ∷ x .v1 ∷ x .v2 ∷ x .v3 ∷ [])
 dual3Words (refused n) = n ∷ []
+
+abbrev pub hyperHyperDualWords : Outcome HyperHyperDual → List ℕ
+hyperHyperDualWords (value x) = 0 ∷ words (hyperHyperDualLayout .parts x)
+hyperHyperDualWords (refused n) = n ∷ []
 
 -- the number and the count or 0
 abbrev pub counted : Outcome ℕ → List ℕ
@@ -130,15 +136,15 @@ table =
     ∷ claim (dualWords (determinantOfZeros 33)) (1 ∷ [])
     ∷ claim (jacobiWords (jacobiOfZeros 33)) (1 ∷ 0 ∷ replicate 66 0x4048_8000_0000_0000 ++ replicate 2178 0x4048_8000_0000_0000)
     -- P8: (5,1) powi 2 is (25,10); `Dual3` (5,1,0,0) powi 3 with 1 supplied is (125,75,30,6)
-    ∷ claim (dualWords (apply.applyOf dualAlgebra (dual five float.one) (Powi (pos 2) float.one))) (0 ∷ 0x4039_0000_0000_0000 ∷ 0x4024_0000_0000_0000 ∷ [])
-    ∷ claim (dual3Words (apply.applyOf dual3Algebra (dual3 five float.one float.zero float.zero) (Powi (pos 3) float.one)))
+    ∷ claim (dualWords (apply.applyOf dualAlgebra 1 (dual five float.one) (Powi (pos 2) float.one))) (0 ∷ 0x4039_0000_0000_0000 ∷ 0x4024_0000_0000_0000 ∷ [])
+    ∷ claim (dual3Words (apply.applyOf dual3Algebra 3 (dual3 five float.one float.zero float.zero) (Powi (pos 3) float.one)))
     (0 ∷ 0x405f_4000_0000_0000 ∷ 0x4052_c000_0000_0000 ∷ 0x403e_0000_0000_0000 ∷ 0x4018_0000_0000_0000 ∷ [])
     -- P9: exponent 1,024 accepted, 1,025 and -1,025 give 5
     ∷ claim (
-    numberOf (apply.applyOf dualAlgebra (dual five float.one) (Powi (pos 1024) float.one))
-    ∷ numberOf (apply.applyOf dualAlgebra (dual five float.one) (Powi (negsuc 1023) float.one))
-    ∷ numberOf (apply.applyOf dualAlgebra (dual five float.one) (Powi (pos 1025) float.one))
-    ∷ numberOf (apply.applyOf dualAlgebra (dual five float.one) (Powi (negsuc 1024) float.one)) ∷ []
+    numberOf (apply.applyOf dualAlgebra 1 (dual five float.one) (Powi (pos 1024) float.one))
+    ∷ numberOf (apply.applyOf dualAlgebra 1 (dual five float.one) (Powi (negsuc 1023) float.one))
+    ∷ numberOf (apply.applyOf dualAlgebra 1 (dual five float.one) (Powi (pos 1025) float.one))
+    ∷ numberOf (apply.applyOf dualAlgebra 1 (dual five float.one) (Powi (negsuc 1024) float.one)) ∷ []
     )
     (0 ∷ 0 ∷ 5 ∷ 5 ∷ [])
     -- P10: root of 2^-1074 is 2^-537; root of -0 is -0
@@ -154,4 +160,35 @@ table =
     -- [[1, 2^-600],[2^-600, 2]]: the square vanishes, no sweep, eigenvalues 1, 2
     ∷ claim (jacobiWords-of (0x3ff0_0000_0000_0000 ∷ 0 ∷ 0x1a70_0000_0000_0000 ∷ 0 ∷ 0x1a70_0000_0000_0000 ∷ 0 ∷ 0x4000_0000_0000_0000 ∷ 0 ∷ []))
     (0 ∷ 0 ∷ 0x3ff0_0000_0000_0000 ∷ 0 ∷ 0x4000_0000_0000_0000 ∷ 0 ∷ 0x3ff0_0000_0000_0000 ∷ 0 ∷ 0 ∷ 0 ∷ 0 ∷ 0 ∷ 0x3ff0_0000_0000_0000 ∷ 0 ∷ [])
+    ∷ []
+
+-- `Dual3` (0, 1, 0, 0) and `HyperHyperDual` (0; 1, 1, 1; 0, 0, 0; 0): the argument itself at the centre
+abbrev pub dual3Centre : Dual3
+dual3Centre = dual3 float.zero float.one float.zero float.zero
+
+abbrev pub hyperHyperDualCentre : HyperHyperDual
+hyperHyperDualCentre = hyperHyperDual float.zero float.one float.one float.one float.zero float.zero float.zero float.zero
+
+-- `Dual3` (2^-52 - 2^-104, 1, -2^51, -1.5), and the series rule with its cube from the right
+abbrev pub dual3Tie : Dual3
+dual3Tie = dual3 (ofBits binary64 0x3caf_ffff_ffff_fffe) float.one (ofBits binary64 0xc320_0000_0000_0000) (ofBits binary64 0xbff8_0000_0000_0000)
+
+abbrev pub regrouped : Dual3 → Dual3
+regrouped x = dual3Sub (dual3DivFloat x float.three) (dual3DivFloat (dual3Mul x (dual3Mul x x)) float.thirty)
+
+-- the values of document 02
+unfoldable pub wishes : List Claim
+wishes =
+    -- wish 4: the float nearest -0.2
+    claim (toBits binary64 (round binary64 true 1 5) ∷ []) (0xbfc9_9999_9999_999a ∷ [])
+    -- sph_j1 of `Dual3` (0, 1, 0, 0), whatever sine and cosine are supplied, has no third derivative; sph_j1_series has that float
+    ∷ claim (dual3Words (apply.applyOf dual3Algebra 3 dual3Centre (SphJ1 five five))) (0 ∷ 0 ∷ 0x3fd5_5555_5555_5555 ∷ 0 ∷ 0 ∷ [])
+    ∷ claim (dual3Words (apply.applyOf dual3Algebra 3 dual3Centre (SphJ1Series five five))) (0 ∷ 0 ∷ 0x3fd5_5555_5555_5555 ∷ 0 ∷ 0xbfc9_9999_9999_999a ∷ [])
+    -- eps1eps2eps3 of `HyperHyperDual` (0; 1, 1, 1; 0, 0, 0; 0) is that float too
+    ∷ claim (hyperHyperDualWords (apply.applyOf hyperHyperDualAlgebra 3 hyperHyperDualCentre (SphJ1Series five five)))
+    (0 ∷ 0 ∷ 0x3fd5_5555_5555_5555 ∷ 0x3fd5_5555_5555_5555 ∷ 0x3fd5_5555_5555_5555 ∷ 0 ∷ 0 ∷ 0 ∷ 0xbfc9_9999_9999_999a ∷ [])
+    -- the cube is (x * x) * x: the v3 of a tie, and what x * (x * x) would make of it
+    ∷ claim (words (apply.cubicJ1 dual3Algebra dual3Tie .v3 ∷ regrouped dual3Tie .v3 ∷ [])) (0xbfd9_9999_9999_999b ∷ 0xbfd9_9999_9999_999a ∷ [])
+    -- the other records have no third derivative: 2
+    ∷ claim (dualWords (apply.applyOf dualAlgebra 1 (dual float.zero float.one) (SphJ1Series five five))) (2 ∷ [])
     ∷ []

@@ -1,1 +1,1 @@
-// Document 01's values P1 to P12, computed by the checker from the definitions: specs/Table.antt has the table, proofs/Computed.antt the one statement.
+// The values of documents 01 and 02, computed by the checker from the definitions: specs/Table.antt has the tables, proofs/Computed.antt the statement of each.

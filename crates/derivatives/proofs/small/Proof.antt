@@ -1,4 +1,4 @@
--- The test is that of the definition: `abs` promises the magnitude.
+-- The test is that of the definition.
 use borrow.Author.Needs.{needs}
 use Rattle.derivatives.proofs.Requests.{small-taken, small-left}
 use Rattle.derivatives.proofs.small.Statement.{statement}

@@ -9,6 +9,6 @@ pub bessel-line-spec : {M : Type 1} → statement M
 bessel-line-spec =
     tie.close
     (tie.spec
-    (λ c κs. search needs) (λ c κs. search needs) (λ c κs. search needs) (λ c κs. search needs)
-    (λ c. search (needs, numbered-floats besselLine)) (λ c. search (needs, numbered-floats besselLine)) (λ c. search (needs, numbered-floats besselLine))
+    (λ c κs. search needs) (λ c κs. search needs) (λ c κs. search needs) (λ c κs. search needs) (λ c κs. search needs)
+    (λ c. search (needs, numbered-floats besselLine)) (λ c. search (needs, numbered-floats besselLine)) (λ c. search (needs, numbered-floats besselLine)) (λ c. search (needs, numbered-floats besselLine))
     (λ c. search (needs, none-floats bessels compositionLine)))

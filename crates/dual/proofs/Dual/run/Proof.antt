@@ -1,7 +1,7 @@
 -- Each arm of the `match` is a case of the plan: one law an arm, over any record (Arms).
 use borrow.Author.Needs.{needs}
-use Rattle.derivatives.proofs.Arms.{arm-refused, arm-one, arm-same, arm-square, arm-chain, arm-quotient, arm-small-j0, arm-small-j1, arm-small-j2, arm-bessel-j0, arm-bessel-j1, arm-bessel-j2}
-use Rattle.dual.specs.Rules.{dualAlgebra}
+use Rattle.derivatives.proofs.Arms.{arm-refused, arm-one, arm-same, arm-square, arm-chain, arm-quotient, arm-small-j0, arm-small-j1, arm-small-j2, arm-bessel-j0, arm-bessel-j1, arm-bessel-j2, arm-no-cubic-j1}
+use Rattle.dual.specs.Rules.{dualNderiv, dualAlgebra}
 use Rattle.dual.proofs.Dual.run.Statement.{statement}
 use Rattle.dual.proofs.Dual.run.Tie as tie
 
@@ -14,16 +14,17 @@ run-spec =
     (λ c κs. search needs) (λ c. search needs) (λ c κs. search needs) (λ c. search needs) (λ c κs. search needs)
     (λ c. search needs) (λ c κs. search needs) (λ c. search needs) (λ c κs. search needs) (λ c κs. search needs)
     (λ c. search needs) (λ c κs. search needs) (λ c κs. search needs) (λ c κs. search needs) (λ c. search needs)
-    (λ c κs. search needs) (λ c κs. search needs) (λ c κs. search needs)
-    (λ c. search (needs, arm-refused dualAlgebra))
-    (λ c. search (needs, arm-one dualAlgebra))
-    (λ c. search (needs, arm-same dualAlgebra))
-    (λ c. search (needs, arm-square dualAlgebra))
-    (λ c. search (needs, arm-chain dualAlgebra))
-    (λ c. search (needs, arm-quotient dualAlgebra))
-    (λ c. search (needs, arm-small-j0 dualAlgebra))
-    (λ c. search (needs, arm-small-j1 dualAlgebra))
-    (λ c. search (needs, arm-small-j2 dualAlgebra))
-    (λ c. search (needs, arm-bessel-j0 dualAlgebra))
-    (λ c. search (needs, arm-bessel-j1 dualAlgebra))
-    (λ c. search (needs, arm-bessel-j2 dualAlgebra)))
+    (λ c κs. search needs) (λ c κs. search needs) (λ c κs. search needs) (λ c. search needs)
+    (λ c. search (needs, arm-refused dualAlgebra dualNderiv))
+    (λ c. search (needs, arm-one dualAlgebra dualNderiv))
+    (λ c. search (needs, arm-same dualAlgebra dualNderiv))
+    (λ c. search (needs, arm-square dualAlgebra dualNderiv))
+    (λ c. search (needs, arm-chain dualAlgebra dualNderiv))
+    (λ c. search (needs, arm-quotient dualAlgebra dualNderiv))
+    (λ c. search (needs, arm-small-j0 dualAlgebra dualNderiv))
+    (λ c. search (needs, arm-small-j1 dualAlgebra dualNderiv))
+    (λ c. search (needs, arm-small-j2 dualAlgebra dualNderiv))
+    (λ c. search (needs, arm-bessel-j0 dualAlgebra dualNderiv))
+    (λ c. search (needs, arm-bessel-j1 dualAlgebra dualNderiv))
+    (λ c. search (needs, arm-bessel-j2 dualAlgebra dualNderiv))
+    (λ c. search (needs, arm-no-cubic-j1 dualAlgebra dualNderiv)))
