@@ -149,10 +149,12 @@ enum evindrast_function {
     EVINDRAST_ACOSH = 0x32, /* x [acosh(re)] */
     EVINDRAST_ATANH = 0x33, /* x [atanh(re)] */
 
-    /* spherical Bessel functions */
-    EVINDRAST_SPH_J0 = 0x34, /* x [sin(re), cos(re)] */
-    EVINDRAST_SPH_J1 = 0x35, /* x [sin(re), cos(re)] */
-    EVINDRAST_SPH_J2 = 0x36, /* x [sin(re), cos(re)] */
+    /* spherical Bessel functions; below 2^-52 SPH_J1, which is num-dual's to the last bit, has a third derivative of 0:
+       take SPH_J1_SERIES for the one that j1 has there, -1/5 at 0 */
+    EVINDRAST_SPH_J0 = 0x34,        /* x [sin(re), cos(re)] */
+    EVINDRAST_SPH_J1 = 0x35,        /* x [sin(re), cos(re)] */
+    EVINDRAST_SPH_J2 = 0x36,        /* x [sin(re), cos(re)] */
+    EVINDRAST_SPH_J1_SERIES = 0x44, /* x [sin(re), cos(re)]; kinds 3, 5: x/3 - x*x*x/30 if |re| < 2^-52, else SPH_J1 */
 
     /* of several records */
     EVINDRAST_MUL_ADD = 0x37, /* x, y, z: x * y + z */

@@ -120,6 +120,7 @@ functions! {
     IsPositive 0x41 "is_positive" 1 [] Number;
     IsZero 0x42 "is_zero" 1 [] Number;
     IsOne 0x43 "is_one" 1 [] Number;
+    SphJ1Series 0x44 "sph_j1_series" 1 [Value(Sin), Value(Cos)] Record;
 }
 
 impl Description {
@@ -226,7 +227,18 @@ fn elementary<F: Part, R: Record<F>>(function: Function, x: R) -> R {
         Function::SphJ0 => x.sph_j0(),
         Function::SphJ1 => x.sph_j1(),
         Function::SphJ2 => x.sph_j2(),
+        Function::SphJ1Series => sph_j1_series(x),
         _ => panic!("{function:?} of one record"),
+    }
+}
+
+/// Document 02's rule (wish 4) over the original's operations, which the original itself has not:
+/// below 2^-52 the first two terms of the series of sph_j1 (DLMF 10.53), elsewhere sph_j1.
+pub fn sph_j1_series<F: Part, R: Record<F>>(x: R) -> R {
+    if x.re().value().abs() < f64::EPSILON {
+        x / F::of(3.0) - ((x * x) * x) / F::of(30.0)
+    } else {
+        x.sph_j1()
     }
 }
 
@@ -304,7 +316,9 @@ pub fn short_way(function: Function, re: f64, argument: Argument) -> bool {
     match function {
         Function::Powi => (0..=2).contains(&argument.exponent),
         Function::Powf => [0.0, 1.0, 2.0].contains(&argument.float),
-        Function::SphJ0 | Function::SphJ1 | Function::SphJ2 => re.abs() < f64::EPSILON,
+        Function::SphJ0 | Function::SphJ1 | Function::SphJ2 | Function::SphJ1Series => {
+            re.abs() < f64::EPSILON
+        }
         _ => false,
     }
 }

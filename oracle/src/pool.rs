@@ -63,6 +63,20 @@ impl Pool {
         (range.start + random.below(range.len())) as u8
     }
 
+    /// The places of all floats below 2^-52 in magnitude, zeros among them.
+    pub fn small(&self) -> Vec<u8> {
+        let small = |place: &u8| self.0[usize::from(*place)].abs() < f64::EPSILON;
+        (0..=u8::MAX).filter(small).collect()
+    }
+
+    /// The first three places of floats whose products with this one are nearest 1 by their exponents.
+    pub fn reciprocals(&self, x: f64) -> [u8; 3] {
+        let exponent = |place: &u8| (x * self.0[usize::from(*place)]).to_bits() >> 52 & 0x7ff;
+        let mut places: Vec<u8> = (0..=u8::MAX).collect();
+        places.sort_by_key(|place| exponent(place).abs_diff(1023));
+        [places[0], places[1], places[2]]
+    }
+
     /// A moderate or unit float for which `wanted` holds.
     pub fn apt(&self, random: &mut Random, wanted: impl Fn(f64) -> bool) -> u8 {
         let places: Vec<usize> =

@@ -41,6 +41,19 @@ pub trait Kind {
     const PARTS: usize;
     const DERIVATIVES: &'static [Function];
     type Record<F: Part>: Record<F>;
+
+    /// A kind has those `derivative` functions that its type has, `sph_j1_series` where it carries
+    /// third derivatives, and every other function.
+    fn offers(function: Function) -> bool {
+        match function {
+            Function::Derivative
+            | Function::Derivative1
+            | Function::Derivative2
+            | Function::Derivative3 => Self::DERIVATIVES.contains(&function),
+            Function::SphJ1Series => <Self::Record<f64> as DualNum>::NDERIV == 3,
+            _ => true,
+        }
+    }
 }
 
 macro_rules! kind {

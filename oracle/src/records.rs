@@ -1,6 +1,6 @@
 //! The answer files of the records: one for each kind, and one for its sums and products.
 use crate::answers::{case, places};
-use crate::functions::{Description, FUNCTIONS, Function};
+use crate::functions::FUNCTIONS;
 use crate::pool::{self, Pool};
 use crate::random::Random;
 use crate::record::{
@@ -30,19 +30,11 @@ pub fn all(run: Run, called: &mut Called) -> Vec<Answers> {
     ]
 }
 
-/// A kind has those `derivative` functions that its type has, and every other function.
-pub fn has<K: Kind>(description: &Description) -> bool {
-    use Function::{Derivative, Derivative1, Derivative2, Derivative3};
-    let function = description.function;
-    let derivative = [Derivative, Derivative1, Derivative2, Derivative3].contains(&function);
-    !derivative || K::DERIVATIVES.contains(&function)
-}
-
 fn functions_of<K: Kind>(run: Run, called: &mut Called) -> Answers {
     let name = format!("records-{}.txt", K::NAME);
     let pool = Pool::new(&mut Random::new(run.seed, &name));
     let (mut cases, mut counts) = (vec![], vec![]);
-    for description in FUNCTIONS.iter().filter(|d| has::<K>(d)) {
+    for description in FUNCTIONS.iter().filter(|d| K::offers(d.function)) {
         // A sequence of its own, so that a function more or less leaves the others' cases alone; named so that at
         // the recorded seed no outside value differs between machines (README.md).
         let mut random =

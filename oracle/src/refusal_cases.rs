@@ -271,17 +271,22 @@ const KINDS: [u64; 10] = [0, 1, 2, 3, 4, 5, 6, 8, 1 << 16 | 1, 0xffff_ffff];
 const EXPONENTS: [i32; 14] =
     [-1025, -1024, -1, 0, 1, 2, 3, 1024, 1025, 1 << 16, i32::MAX, i32::MIN, i32::MIN + 1, -2048];
 
+/// sph_j1_series, which two kinds alone have.
+const SERIES: u64 = Function::SphJ1Series as u64;
+
 /// Every function of every kind with the right lengths; of `Dual`, and of some others, with wrong
 /// ones too.
 fn record_cases() -> Vec<Case> {
     let mut all = unknown_cases();
+    all.extend(series_cases());
     for kind in 1..=5 {
         let width = parts(kind).expect("a kind");
         for function in 0..0x48 {
             let Some(lengths) = wanted_lengths(kind, function) else { continue };
             let right = record_call(kind, function, lengths);
             all.push(right);
-            if kind == 1 || (function + kind) % 16 == 0 || function == Function::Powi as u64 {
+            let wrong_too = [Function::Powi as u64, SERIES].contains(&function);
+            if kind == 1 || (function + kind) % 16 == 0 || wrong_too {
                 let longer = record_call(kind, function, lengths.map(|length| length + width));
                 all.extend(right.wrong_lengths(&[longer]));
                 all.push(Case { exponent: 4000, ..right });
@@ -313,15 +318,16 @@ fn unknown_cases() -> Vec<Case> {
             0x14,
             0x39,
             0x3a,
-            0x44,
+            SERIES,
             0x45,
             0x80,
             0x105,
             1 << 16 | 5,
             0xffff_ffff,
         ];
-        for function in functions.into_iter().filter(|function| offered(kind, *function).is_none())
-        {
+        // without its two floats sph_j1_series is refused by the kinds that have it too
+        let refused = |function: &u64| *function == SERIES || offered(kind, *function).is_none();
+        for function in functions.into_iter().filter(refused) {
             let some = if parts(kind).is_some() { &one[..] } else { &one[..1] };
             all.extend(some.iter().map(|lengths| record_call(kind, function, *lengths)));
         }
@@ -334,6 +340,13 @@ fn unknown_cases() -> Vec<Case> {
         }
     }
     all
+}
+
+/// sph_j1_series for the kinds that have it not, with the lengths that the others want.
+fn series_cases() -> Vec<Case> {
+    let without = KINDS.into_iter().filter(|kind| offered(*kind, SERIES).is_none());
+    let calls = without.flat_map(|kind| widths(kind).into_iter().map(move |width| (kind, width)));
+    calls.map(|(kind, width)| record_call(kind, SERIES, [width, 2, width])).collect()
 }
 
 /// The widths that a call of this kind is tried with: its own; of a kind that is none, every one.

@@ -7,7 +7,6 @@ use crate::original::{Dual, HyperDual};
 use crate::record::{
     Dual2Kind, Dual3Kind, DualKind, HyperDualKind, HyperHyperDualKind, Kind, Record,
 };
-use crate::records::has;
 use crate::refusal_cases::{Case, Entry, Entry::*, cases};
 use crate::supplied::{Outside, Supplied, with_supplied};
 use crate::words::{word, words};
@@ -86,20 +85,20 @@ pub fn parts(kind: u64) -> Option<u64> {
     [2, 3, 4, 4, 8].get((kind as usize).checked_sub(1)?).copied()
 }
 
-fn offers(kind: u64, description: &Description) -> bool {
-    description.function != Function::Nderiv
+fn offers(kind: u64, function: Function) -> bool {
+    function != Function::Nderiv
         && match kind {
-            1 => has::<DualKind>(description),
-            2 => has::<Dual2Kind>(description),
-            3 => has::<Dual3Kind>(description),
-            4 => has::<HyperDualKind>(description),
-            5 => has::<HyperHyperDualKind>(description),
+            1 => DualKind::offers(function),
+            2 => Dual2Kind::offers(function),
+            3 => Dual3Kind::offers(function),
+            4 => HyperDualKind::offers(function),
+            5 => HyperHyperDualKind::offers(function),
             _ => false,
         }
 }
 
 pub fn offered(kind: u64, function: u64) -> Option<&'static Description> {
-    FUNCTIONS.iter().find(|d| d.function as u64 == function).filter(|d| offers(kind, d))
+    FUNCTIONS.iter().find(|d| d.function as u64 == function).filter(|d| offers(kind, d.function))
 }
 
 /// The floats wanted for records, for plain and outside floats, and for the answer.

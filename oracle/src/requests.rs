@@ -14,7 +14,8 @@ pub struct Request {
 }
 
 /// All requests for one function: fixed ones and edges first, then random; where something comes
-/// from outside, the last three tenths carry arbitrary values. A constant has one case.
+/// from outside, the last three tenths carry arbitrary values. A constant has one case. Small real
+/// parts of sph_j1_series come before these, in addition.
 pub fn requests(
     random: &mut Random,
     pool: &Pool,
@@ -26,8 +27,11 @@ pub fn requests(
     let cases = if constant { 1 } else { cases };
     let own = if description.outside().is_empty() { cases } else { cases - cases * 3 / 10 };
     let mut maker = Maker { random, pool, description, parts };
-    let mut requests = maker.fixed();
-    requests.extend((requests.len()..cases).enumerate().map(|(i, at)| maker.request(i, at < own)));
+    let mut requests = maker.small();
+    let fixed = maker.fixed();
+    let others = fixed.len()..cases;
+    requests.extend(fixed);
+    requests.extend(others.enumerate().map(|(i, at)| maker.request(i, at < own)));
     requests
 }
 
@@ -68,6 +72,34 @@ impl Maker<'_> {
             .collect()
     }
 
+    /// For sph_j1_series: every real part of the pool below 2^-52, 0 first, and those next to it. First
+    /// derivative parts of 1, then any, the others 0, so that the cube itself comes out; then second
+    /// ones so large that all terms of the cube are of one size; then all any.
+    fn small(&mut self) -> Vec<Request> {
+        if self.description.function != Function::SphJ1Series {
+            return vec![];
+        }
+        let (firsts, last) = ((self.parts - 2) / 2, self.parts - 1);
+        let mut records = vec![];
+        for real in self.pool.small().into_iter().chain(NOT_SMALL) {
+            let slopes: Vec<u8> =
+                (0..self.parts).map(|_| Pool::place(self.random, pool::MODERATE)).collect();
+            let large = self.pool.reciprocals(self.pool.0[usize::from(real)]);
+            records.extend([
+                self.with(real, |part| if part <= firsts { ONE } else { ZERO }),
+                self.with(real, |part| if part <= firsts { slopes[part] } else { ZERO }),
+                self.with(real, |part| match part {
+                    _ if part <= firsts => slopes[part],
+                    _ if part == last => ZERO,
+                    _ => large[part - firsts - 1],
+                }),
+                self.with(real, |part| slopes[part]),
+            ]);
+        }
+        records.dedup(); // nothing is large beside 0
+        records.into_iter().map(|record| plain(vec![record])).collect()
+    }
+
     /// For comparisons and tests: the real parts that decide them, with derivative parts that must
     /// not matter.
     fn deciding(&mut self) -> Vec<Request> {
@@ -84,8 +116,7 @@ impl Maker<'_> {
             }
             _ => vec![],
         };
-        let request = |records| Request { records, argument: Argument::default(), supplied: None };
-        records.into_iter().map(request).collect()
+        records.into_iter().map(plain).collect()
     }
 
     /// Two records with these real parts: derivative parts the same, and each another.
@@ -142,6 +173,7 @@ impl Maker<'_> {
                 | Function::Powf
                 | Function::Powd
                 | Function::Sqrt => self.pool.apt(self.random, |x| x > 0.0),
+                Function::SphJ1Series => self.random.choose(&self.pool.small()),
                 _ => self.pool.apt(self.random, |_| true),
             },
         }
@@ -184,9 +216,17 @@ impl Maker<'_> {
     }
 }
 
+/// A call of records alone, with the Rust's own values from outside.
+fn plain(records: Vec<Vec<u8>>) -> Request {
+    Request { records, argument: Argument::default(), supplied: None }
+}
+
 /// 0 and 1, as places of edges.
 const ZERO: u8 = 0;
 const ONE: u8 = 2;
+
+/// 2^-52, the next float, and both with a minus, as places of edges: no longer small.
+const NOT_SMALL: [u8; 4] = [15, 17, 18, 20];
 
 /// The logarithm of a base so near 1 that the derivatives there lie just below the largest float.
 const BASE_BY_ONE: f64 = f64::from_bits(0x00059f0000000000);

@@ -398,7 +398,9 @@ pub trait DualNum:
         answer(Function::SphJ0, &[*self], &sine_cosine(self))
     }
 
-    /// 1st order spherical Bessel function of the first kind.
+    /// 1st order spherical Bessel function of the first kind: num-dual's, float for float. Where
+    /// |re| is below 2^-52 it is `x / 3`, so that a third derivative is 0 there and not -1/5;
+    /// [`Dual3_64::sph_j1_series`](crate::Dual3_64::sph_j1_series) has it.
     #[inline]
     fn sph_j1(&self) -> Self {
         answer(Function::SphJ1, &[*self], &sine_cosine(self))
@@ -417,7 +419,8 @@ pub trait DualNum:
     }
 }
 
-fn sine_cosine<T: DualNum>(x: &T) -> [f64; 2] {
+/// What the circular functions and the Bessel functions take from outside.
+pub(crate) fn sine_cosine<T: DualNum>(x: &T) -> [f64; 2] {
     let (sine, cosine) = x.re().sin_cos();
     [sine, cosine]
 }

@@ -97,4 +97,5 @@ functions! {
     IsPositive = 0x41 "x: a truth";
     IsZero = 0x42 "x: a truth";
     IsOne = 0x43 "x: a truth";
+    SphJ1Series = 0x44 "x `[sin(re), cos(re)]`; `Dual3_64`, `HyperHyperDual64`";
 }

@@ -61,6 +61,8 @@
 //!   `Display`, serde and num-traits' own traits are left out: their methods stand in [`DualNum`].
 //! - [`DualNum::powi`] refuses exponents outside -1,024..1,024.
 //! - [`LU`] and [`jacobi_eigenvalue`] take a [`Matrix`] and say why they refuse.
+//! - [`Dual3_64`] and [`HyperHyperDual64`] have `sph_j1_series` besides: `sph_j1` with its third
+//!   derivative about 0, which num-dual's has not.
 //! - A NaN counts as positive, and is 7ff8000000000000 where it leaves an operation on records.
 //!
 //! # Building

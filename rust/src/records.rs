@@ -1,5 +1,5 @@
 //! The five records: their parts, constructors and operators, written once.
-use crate::dual_num::{answer, holds};
+use crate::dual_num::{answer, holds, sine_cosine};
 use crate::layout::{floats, floats_mut, Floats};
 use crate::{exports, DualNum, Function, Kind};
 use std::cmp::Ordering;
@@ -353,4 +353,42 @@ record! {
         eps1eps2eps3 "Third partial derivative part"
     ],
     [derivative1 eps1, derivative2 eps2, derivative3 eps3]
+}
+
+macro_rules! series {
+    ($($(#[$example:meta])* $record:ident;)*) => {$(
+        impl $record {
+            /// 1st order spherical Bessel function of the first kind, with its third derivative
+            /// about 0: where |re| is below 2^-52 the first two terms of its series (DLMF 10.53),
+            /// `x / 3.0 - x * x * x / 30.0`.
+            ///
+            /// Take [`sph_j1`](DualNum::sph_j1) for what num-dual gives, float for float, whose
+            /// third derivative is 0 there, and this for the third derivative itself. From 2^-52
+            /// up, and for a NaN, both are one.
+            ///
+            $(#[$example])*
+            #[inline]
+            pub fn sph_j1_series(&self) -> Self {
+                answer(Function::SphJ1Series, &[*self], &sine_cosine(self))
+            }
+        }
+    )*};
+}
+
+series! {
+    /// ```
+    /// use evindrast::{Dual3_64, DualNum};
+    /// let x = Dual3_64::from_re(0.0).derivative();
+    /// assert_eq!((x.sph_j1_series().v1, x.sph_j1_series().v3), (1.0 / 3.0, -0.2));
+    /// assert_eq!((x.sph_j1().v1, x.sph_j1().v3), (1.0 / 3.0, 0.0));
+    /// ```
+    Dual3_64;
+
+    /// ```
+    /// use evindrast::{DualNum, HyperHyperDual64};
+    /// let x = HyperHyperDual64::from_re(0.0).derivative1().derivative2().derivative3();
+    /// assert_eq!(x.sph_j1_series().eps1eps2eps3, -0.2);
+    /// assert_eq!(x.sph_j1().eps1eps2eps3, 0.0);
+    /// ```
+    HyperHyperDual64;
 }

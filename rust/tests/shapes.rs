@@ -271,7 +271,7 @@ const WIDTHS: [(u32, usize); 5] = [(1, 2), (2, 3), (3, 4), (4, 4), (5, 8)];
 fn every_length_of_a_record_has_its_number() {
     let header = header();
     assert_eq!(header.len(), evindrast::Function::ALL.len());
-    let unknown = [0x00, 0x03, 0x13, 0x14, 0x39, 0x3a, 0x44, 0x126, u32::MAX];
+    let unknown = [0x00, 0x03, 0x13, 0x14, 0x39, 0x3a, 0x45, 0x126, u32::MAX];
     let numbers = header.iter().map(|said| said.number).chain(unknown);
     let kinds = WIDTHS.iter().copied().chain([(0, 2), (6, 2), (u32::MAX, 2)]);
     let (mut done, mut refused) = (0, 0);

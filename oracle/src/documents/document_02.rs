@@ -1,28 +1,114 @@
 //! Document 02: what the wishes say of the Rust.
-use super::{Row, dual, factored, flat, plain, row, said};
+use super::{Row, cubic, dual, factored, flat, mixed, plain, row, said};
+use crate::functions::sph_j1_series;
 use crate::matrices::{Entry, jacobi, smallest};
 use crate::matrix_requests::{Matrix, Style, matrix};
 use crate::original::{Dual2, Dual3, DualNum, HyperDual};
 use crate::random::Random;
 use crate::record::Record;
-use crate::words::words;
+use crate::words::{float, words};
 
 pub(super) fn rows() -> Vec<Row> {
-    let cubic = Dual3::of(&[0.0, 1.0, 0.0, 0.0]);
-    let series = cubic / 3.0 - ((cubic * cubic) * cubic) / 30.0;
+    [at_zero(), below_epsilon(), at_epsilon(), other_wishes()].concat()
+}
+
+/// Wish 4 at 0: the third derivative of sph_j1 by the Rust, and by the series rule.
+fn at_zero() -> Vec<Row> {
+    let (place, third) = ("02 wish 4", 1.0 / 3.0);
+    let (x, y, negative) = (cubic(0.0), mixed(0.0), cubic(-0.0));
+    let series = x / 3.0 - ((x * x) * x) / 30.0;
+    vec![
+        row(place, "Dual3 (0,1,0,0) sph_j1", &[0.0, third, 0.0, 0.0], &x.sph_j1().parts()),
+        row(place, "the series rule's v3", &[-0.2], &[series.v3]),
+        row(
+            place,
+            "Dual3 (0,1,0,0) by the series rule",
+            &[0.0, third, 0.0, -0.2],
+            &sph_j1_series(x).parts(),
+        ),
+        row(
+            place,
+            "HyperHyperDual (0;1,1,1;0,0,0;0) sph_j1",
+            &[0.0, third, third, third, 0.0, 0.0, 0.0, 0.0],
+            &y.sph_j1().parts(),
+        ),
+        row(
+            place,
+            "HyperHyperDual (0;1,1,1;0,0,0;0) by the series rule",
+            &[0.0, third, third, third, 0.0, 0.0, 0.0, -0.2],
+            &sph_j1_series(y).parts(),
+        ),
+        row(
+            place,
+            "Dual3 (-0,1,0,0): re of sph_j1 and by the series rule",
+            &[-0.0, 0.0],
+            &[negative.sph_j1().re, sph_j1_series(negative).re],
+        ),
+    ]
+}
+
+/// Wish 4 just below 2^-52, where the two rules differ still.
+fn below_epsilon() -> Vec<Row> {
+    let (place, third) = ("02 wish 4", 1.0 / 3.0);
+    let below = f64::from_bits(f64::EPSILON.to_bits() - 1);
+    let (value, fifth) = (below / 3.0, -(2.0 * below + 4.0 * below) / 30.0);
+    vec![
+        row(
+            place,
+            "Dual3 (3cafffffffffffff,1,0,0) sph_j1",
+            &[value, third, 0.0, 0.0],
+            &cubic(below).sph_j1().parts(),
+        ),
+        row(
+            place,
+            "Dual3 (3cafffffffffffff,1,0,0) by the series rule",
+            &[value, third, fifth, -0.2],
+            &sph_j1_series(cubic(below)).parts(),
+        ),
+        row(
+            place,
+            "HyperHyperDual (3cafffffffffffff;1,1,1;0,0,0;0) sph_j1",
+            &[value, third, third, third, 0.0, 0.0, 0.0, 0.0],
+            &mixed(below).sph_j1().parts(),
+        ),
+        row(
+            place,
+            "HyperHyperDual (3cafffffffffffff;1,1,1;0,0,0;0) by the series rule",
+            &[value, third, third, third, fifth, fifth, fifth, -0.2],
+            &sph_j1_series(mixed(below)).parts(),
+        ),
+    ]
+}
+
+/// Wish 4 at 2^-52, where the two rules are one; and a tie at which the cube's grouping shows, as it
+/// does in `Dual3` at ties alone.
+fn at_epsilon() -> Vec<Row> {
+    let (place, edge) = ("02 wish 4", cubic(f64::EPSILON));
+    let tie = Dual3::of(&[float(0x3caffffffffffffe), 1.0, -2f64.powi(51), -1.5]);
+    let regrouped = tie / 3.0 - (tie * (tie * tie)) / 30.0;
+    vec![
+        row(
+            place,
+            "Dual3 (2^-52,1,0,0) by the series rule is sph_j1",
+            &edge.sph_j1().parts(),
+            &sph_j1_series(edge).parts(),
+        ),
+        row(
+            place,
+            "v3 of Dual3 (3caffffffffffffe,1,-2^51,-1.5) by the series rule, and by x·(x·x)",
+            &[float(0xbfd999999999999b), float(0xbfd999999999999a)],
+            &[sph_j1_series(tie).v3, regrouped.v3],
+        ),
+    ]
+}
+
+fn other_wishes() -> Vec<Row> {
     let big = 2f64.powi(53);
     let (s, o) = (Dual2::of(&[1.0, 1.0, -big]), Dual2::of(&[1.0, 1.0, big]));
     let diagonal = plain(&[3.0, 0.0, 0.0, 1.0]);
     let pivot = f64::from_bits(breaking_pivot());
     let broken = factored(2, &plain(&[pivot, 1.0, pivot, 2.0]));
     vec![
-        row(
-            "02 wish 4",
-            "Dual3 (0,1,0,0) sph_j1",
-            &[0.0, 1.0 / 3.0, 0.0, 0.0],
-            &cubic.sph_j1().parts(),
-        ),
-        row("02 wish 4", "the series rule's v3", &[-0.2], &[series.v3]),
         said(
             "02 wish 10",
             "a diagonal matrix settles at limit 1, not at 0",

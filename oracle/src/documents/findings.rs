@@ -1,6 +1,6 @@
 //! What running showed where the Rust, document 01 and public documents differ or are silent:
 //! docs/DIFFERENCES.md, each line of it run.
-use super::{INF, NAN, Row, dual, flat, row, said};
+use super::{INF, NAN, Row, cubic, dual, flat, mixed, row, said};
 use crate::matrices::{Entry, jacobi, lu};
 use crate::original::DualNum;
 use crate::record::Record;
@@ -153,12 +153,25 @@ fn domains() -> Vec<Row> {
 fn series() -> Vec<Row> {
     let x = dual(EPSILON, 1.0);
     let all = [x.sph_j0(), x.sph_j1(), x.sph_j2()];
+    let (second, third) = (2f64.powi(53), -5.0 * 2f64.powi(105));
     vec![
         row(
             "16",
             "sph_j0, sph_j1, sph_j2 of (2^-52, 1)",
             &[1.0, 0.0, 0.0, 0.0, -1.0, 0.0],
             &flat(&all),
+        ),
+        row(
+            "16",
+            "sph_j1 of Dual3 (2^-52, 1, 0, 0)",
+            &[0.0, 0.0, second, third],
+            &cubic(EPSILON).sph_j1().parts(),
+        ),
+        row(
+            "16",
+            "sph_j1 of HyperHyperDual (2^-52; 1, 1, 1; 0, 0, 0; 0)",
+            &[0.0, 0.0, 0.0, 0.0, second, second, second, third],
+            &mixed(EPSILON).sph_j1().parts(),
         ),
         row(
             "16",

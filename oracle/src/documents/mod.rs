@@ -6,7 +6,7 @@ mod findings;
 mod traps;
 
 use crate::matrices::{Entry, Factors, lu};
-use crate::original::Dual;
+use crate::original::{Dual, Dual3, HyperHyperDual};
 use crate::record::Record;
 use crate::supplied::{Outside, Supplied, with_supplied};
 use crate::words::{hex_line, words};
@@ -64,6 +64,16 @@ fn said<T: std::fmt::Debug>(
 /// Made at run time: the compiler must not work the answer out.
 fn dual(re: f64, eps: f64) -> Entry {
     black_box(Dual { re, eps })
+}
+
+/// The start of a third derivative, made at run time too.
+fn cubic(re: f64) -> Dual3<f64> {
+    black_box(Dual3::of(&[re, 1.0, 0.0, 0.0]))
+}
+
+/// The same by three variables that are one.
+fn mixed(re: f64) -> HyperHyperDual<f64> {
+    black_box(HyperHyperDual::of(&[re, 1.0, 1.0, 1.0, 0.0, 0.0, 0.0, 0.0]))
 }
 
 /// A record over the supplied part type, its function called with these values.

@@ -7,6 +7,7 @@ mod matrices;
 mod port;
 mod records;
 mod refusals;
+mod series;
 
 use counts::Counts;
 use std::process::ExitCode;
@@ -21,6 +22,7 @@ fn main() -> ExitCode {
     let (cases, seed) = (number(cases), number(seed) as u64);
     let mut counts = Counts::default();
     records::all(&mut counts, cases, seed);
+    series::all(&mut counts, 4 * cases, seed);
     matrices::all(&mut counts, 4 * cases, seed);
     refusals::all(&mut counts, 4 * cases, seed);
     if counts.print() == 0 { ExitCode::SUCCESS } else { ExitCode::FAILURE }

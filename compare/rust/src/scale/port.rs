@@ -8,18 +8,18 @@ use evindrast::{
 };
 use std::cmp::Ordering::{Equal, Greater, Less};
 
-/// A record of the crate, with its `derivative` functions by their numbers.
+/// A record of the crate, with the functions that not every record has, by their numbers.
 pub trait Port: DualNum {
-    fn derivative(self, function: Function) -> Self;
+    fn particular(self, function: Function) -> Self;
 }
 
 macro_rules! port {
-    ($record:ident, [$($function:ident $derivative:ident),*]) => {
+    ($record:ident, [$($function:ident $name:ident),*]) => {
         impl Port for $record {
-            fn derivative(self, function: Function) -> Self {
+            fn particular(self, function: Function) -> Self {
                 match function {
-                    $(Function::$function => self.$derivative(),)*
-                    _ => panic!("no such derivative"),
+                    $(Function::$function => self.$name(),)*
+                    _ => panic!("{} has no {function:?}", stringify!($record)),
                 }
             }
         }
@@ -28,11 +28,14 @@ macro_rules! port {
 
 port!(Dual64, [Derivative derivative]);
 port!(Dual2_64, [Derivative derivative]);
-port!(Dual3_64, [Derivative derivative]);
+port!(Dual3_64, [Derivative derivative, SphJ1Series sph_j1_series]);
 port!(HyperDual64, [Derivative1 derivative1, Derivative2 derivative2]);
 port!(
     HyperHyperDual64,
-    [Derivative1 derivative1, Derivative2 derivative2, Derivative3 derivative3]
+    [
+        Derivative1 derivative1, Derivative2 derivative2, Derivative3 derivative3,
+        SphJ1Series sph_j1_series
+    ]
 );
 
 /// With std's own outside values. Where the crate has several forms of an operation all are called
@@ -82,7 +85,8 @@ fn of_one<D: Port>(function: Function, x: D, k: f64) -> Vec<u64> {
         Function::Derivative
         | Function::Derivative1
         | Function::Derivative2
-        | Function::Derivative3 => agreed([x.derivative(function), library(function, &[x], &[])]),
+        | Function::Derivative3 => agreed([x.particular(function), library(function, &[x], &[])]),
+        Function::SphJ1Series => parts(x.particular(function)),
         _ => parts(elementary(function, x)),
     }
 }

@@ -32,7 +32,7 @@ fn kind<K: Kind, D: Port>(counts: &mut Counts, cases: usize, seed: u64) {
     for round in 0..cases.div_ceil(ROUND) {
         let cases = ROUND.min(cases - round * ROUND);
         let pool = Pool::new(&mut random);
-        for description in FUNCTIONS.iter().filter(|d| offered::<K>(d.function)) {
+        for description in FUNCTIONS.iter().filter(|d| K::offers(d.function)) {
             let requests = requests(&mut random, &pool, description, K::PARTS, cases);
             let cell = counts.cell(description.name, K::NAME);
             for request in requests {
@@ -44,12 +44,6 @@ fn kind<K: Kind, D: Port>(counts: &mut Counts, cases: usize, seed: u64) {
         }
         runs::<K, D>(counts, &mut random, &pool, cases);
     }
-}
-
-fn offered<K: Kind>(function: Function) -> bool {
-    let derivatives =
-        [Function::Derivative, Function::Derivative1, Function::Derivative2, Function::Derivative3];
-    !derivatives.contains(&function) || K::DERIVATIVES.contains(&function)
 }
 
 fn by_port<D: Port>(description: &Description, parts: &[Vec<f64>], request: &Request) -> Answer {
@@ -77,11 +71,11 @@ fn by_rust<K: Kind>(description: &Description, parts: &[Vec<f64>], request: &Req
     })
 }
 
-fn originals<F: Part, K: Kind>(parts: &[Vec<f64>]) -> Vec<K::Record<F>> {
+pub fn originals<F: Part, K: Kind>(parts: &[Vec<f64>]) -> Vec<K::Record<F>> {
     parts.iter().map(|p| K::Record::<F>::of(p)).collect()
 }
 
-fn record<D: Port>(parts: &[f64]) -> D {
+pub fn record<D: Port>(parts: &[f64]) -> D {
     D::from_parts(parts).expect("as many floats as the record has")
 }
 

@@ -234,7 +234,8 @@ impl RecordCall {
             _ => random.below(0x48) as u32,
         };
         let exponent = random.choose(&[0, 3, 1024, -1024, 1025, -1025, i32::MAX, i32::MIN]);
-        let lengths = lengths(kind, function).unwrap_or([8, 1, 8]);
+        // a kind that has not the function is lent what another would want
+        let lengths = taken(parts(kind).unwrap_or(8), function).unwrap_or([8, 1, 8]);
         let mut length = |right: usize| match random.below(12) {
             0 => right + 1,
             1 => right.saturating_sub(1),
@@ -251,7 +252,8 @@ fn parts(kind: u32) -> Option<usize> {
     [2, 3, 4, 4, 8].get((kind as usize).checked_sub(1)?).copied()
 }
 
-/// The floats wanted for records, for plain and outside floats, and for the answer.
+/// The floats wanted for records, for plain and outside floats, and for the answer, where the kind has
+/// the function.
 fn lengths(kind: u32, function: u32) -> Option<[usize; 3]> {
     let parts = parts(kind)?;
     match function {
@@ -259,12 +261,16 @@ fn lengths(kind: u32, function: u32) -> Option<[usize; 3]> {
         0x05 if kind > 3 => None,
         0x06 | 0x07 if kind < 4 => None,
         0x08 if kind < 5 => None,
-        _ => {
-            let known = FUNCTIONS.iter().find(|d| d.function as u32 == function)?;
-            let floats = known.extras.iter().filter(|extra| **extra != Extra::Exponent).count();
-            Some([known.records * parts, floats, known.answer_words(parts)])
-        }
+        0x44 if kind != 3 && kind != 5 => None,
+        _ => taken(parts, function),
     }
+}
+
+/// The same by the floats of a record alone.
+fn taken(parts: usize, function: u32) -> Option<[usize; 3]> {
+    let known = FUNCTIONS.iter().find(|d| d.function as u32 == function)?;
+    let floats = known.extras.iter().filter(|extra| **extra != Extra::Exponent).count();
+    Some([known.records * parts, floats, known.answer_words(parts)])
 }
 
 fn record(call: &RecordCall) -> Outcome {
