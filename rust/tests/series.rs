@@ -43,6 +43,21 @@ fn the_rule_below_epsilon() {
     }
 }
 
+/// Records at which a product with a thirtieth, or the cube multiplied from the right, would give
+/// another last digit.
+#[test]
+fn divisor_and_grouping_show() {
+    let x = Dual3_64::new(0.0, 4.7, 0.0, 0.0);
+    assert_eq!(x.sph_j1_series().v3.to_bits(), 0xc034c3bcd35a8589);
+    let x = HyperHyperDual64::new(0.0, 4.7, 4.7, 4.7, 0.0, 0.0, 0.0, 0.0);
+    assert_eq!(x.sph_j1_series().eps1eps2eps3.to_bits(), 0xc034c3bcd35a8589);
+    let tie = Dual3_64::new(f64::from_bits(0x3caffffffffffffe), 1.0, -2f64.powi(51), -1.5);
+    assert_eq!(tie.sph_j1_series().v3.to_bits(), 0xbfd999999999999b);
+    let [a, b, c] = [0.4, 8.0, 0.5].map(|part| part * 2f64.powi(53));
+    let x = HyperHyperDual64::new(2f64.powi(-53), 0.7, -1.5, 0.1, a, b, c, 0.0);
+    assert_eq!(x.sph_j1_series().eps1eps2eps3.to_bits(), 0x4002be76c8b43957);
+}
+
 #[test]
 fn elsewhere_it_is_sph_j1() {
     let above = f64::from_bits(EPSILON.to_bits() + 1);

@@ -1,5 +1,5 @@
-//! sph_j1_series at real parts below 2^-52 of every magnitude, with derivative parts at which its cube
-//! shows; and in how many of these cases each of some wrong rules would show.
+//! sph_j1_series at real parts below 2^-52 of every magnitude, with derivative parts at which its
+//! cube shows; and in how many of these cases each of some wrong rules would show.
 use crate::counts::{Counts, hex};
 use crate::port::{self, Port};
 use crate::records::record;
@@ -101,7 +101,7 @@ fn drawn(random: &mut Random, parts: usize) -> Vec<f64> {
     [vec![re], (0..firsts).map(first).collect(), others].concat()
 }
 
-/// Below 2^-52: mostly near it, else of every magnitude, subnormals and zeros; and the floats next to it.
+/// Below 2^-52: most near it, others of every magnitude, subnormals, zeros; and the floats about it.
 fn real(random: &mut Random) -> f64 {
     let sign = if random.chance(50) { -1.0 } else { 1.0 };
     sign * match random.below(8) {
