@@ -364,7 +364,8 @@ macro_rules! series {
             ///
             /// Take [`sph_j1`](DualNum::sph_j1) for what num-dual gives, float for float, whose
             /// third derivative is 0 there, and this for the third derivative itself. From 2^-52
-            /// up, and for a NaN, both are one.
+            /// up, and for a NaN, both are one. Below, the real parts are one too, but that this
+            /// has +0 where `sph_j1` has -0.
             ///
             $(#[$example])*
             #[inline]
