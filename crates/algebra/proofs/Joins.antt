@@ -6,45 +6,45 @@ use native.Mathlib.Omega.{arith}
 use borrow.Author.Tests.{eq-eqb, ne_eqb}
 use lib.ListN.{length, get_or}
 use lib.Ieee.{Float}
-use Rattle.refusals.specs.Number.{wrongLength}
+use Rattle.refusals.specs.Number.{wrong_length}
 use Rattle.algebra.specs.Algebra.{Algebra, zero_of, one_of}
-use Rattle.algebra.specs.Flat.{Layout, recordAt, recordCount, decode, sum_of, productOf}
+use Rattle.algebra.specs.Flat.{Layout, record_at, record_count, decode, sum_of, product_of}
 use Rattle.algebra.specs.Loop.{upto}
 use Rattle.algebra.specs.Outcome.{value, refused}
-use Rattle.algebra.proofs.Flat.{decode-at}
+use Rattle.algebra.proofs.Flat.{decode_at}
 use Rattle.algebra.proofs.Laws.{Laws}
-use Rattle.algebra.proofs.Loop.{upto_turn, upto-end}
+use Rattle.algebra.proofs.Loop.{upto_turn, upto_end}
 
 -- the floats l, joined by op from `start` on, as far as record p
 pub record Joining {R : Type 0} (L : Layout R) (op : R → R → R) (start : R) (l : List Float) (acc : R) (p : ℕ) : Type 0 where
-  pub reached : p ≤ recordCount L l
-  pub rest : upto p (recordCount L l) (λ q s. op s (recordAt L l q)) acc ≡ upto 0 (recordCount L l) (λ q s. op s (recordAt L l q)) start
+  pub reached : p ≤ record_count L l
+  pub rest : upto p (record_count L l) (λ q s. op s (record_at L l q)) acc ≡ upto 0 (record_count L l) (λ q s. op s (record_at L l q)) start
 
 module _ {R : Type 0} {A : Algebra R} {L : Layout R} (Q : Laws A L) where
-  pub joining-starts : {op : R → R → R} {start : R} {l : List Float} → Joining L op start l start 0
-  joining-starts = record { reached = omega arith; rest = refl }
+  pub joining_starts : {op : R → R → R} {start : R} {l : List Float} → Joining L op start l start 0
+  joining_starts = record { reached = omega arith; rest = refl }
 
-  pub joining-turn : {op : R → R → R} {start : R} {l : List Float} {p : ℕ} (acc acc' x : R) → Joining L op start l acc p → p < recordCount L l → x ≡ get_or (decode L l) p (zero_of A) → acc' ≡ op acc x
+  pub joining_turn : {op : R → R → R} {start : R} {l : List Float} {p : ℕ} (acc acc' x : R) → Joining L op start l acc p → p < record_count L l → x ≡ get_or (decode L l) p (zero_of A) → acc' ≡ op acc x
       → Joining L op start l acc' (p + 1)
-  joining-turn {op} {start} {l} {p} acc acc' x j h read made =
+  joining_turn {op} {start} {l} {p} acc acc' x j h read made =
       record {
         reached = omega arith;
-        rest = upto_turn p (recordCount L l) (λ q s. op s (recordAt L l q)) acc acc' h (made ∙ ap (op acc) (read ∙ decode-at L Q.lawful l p (zero_of A) h)) j.rest;
+        rest = upto_turn p (record_count L l) (λ q s. op s (record_at L l q)) acc acc' h (made ∙ ap (op acc) (read ∙ decode_at L Q.lawful l p (zero_of A) h)) j.rest;
       }
 
   -- a length of no whole records is refused; after the last record stands the whole
-  pub sum-refused : (l : List Float) → (length l % L.width ≡ 0 → ⊥) → refused wrongLength ≡ sum_of L A l
+  pub sum_refused : (l : List Float) → (length l % L.width ≡ 0 → ⊥) → refused wrong_length ≡ sum_of L A l
   unfolding sum_of
-  sum-refused l h = rw (ne_eqb _ _ h)
+  sum_refused l h = rw (ne_eqb _ _ h)
 
-  pub sum-ends : (l : List Float) (acc : R) (p : ℕ) → length l % L.width ≡ 0 → Joining L A.add (zero_of A) l acc p → recordCount L l ≤ p → value acc ≡ sum_of L A l
+  pub sum_ends : (l : List Float) (acc : R) (p : ℕ) → length l % L.width ≡ 0 → Joining L A.add (zero_of A) l acc p → record_count L l ≤ p → value acc ≡ sum_of L A l
   unfolding sum_of
-  sum-ends l acc p whole j h = rw (eq-eqb _ _ whole) (ap value (upto-end p (recordCount L l) (λ q s. A.add s (recordAt L l q)) acc h j.rest))
+  sum_ends l acc p whole j h = rw (eq-eqb _ _ whole) (ap value (upto_end p (record_count L l) (λ q s. A.add s (record_at L l q)) acc h j.rest))
 
-  pub product-refused : (l : List Float) → (length l % L.width ≡ 0 → ⊥) → refused wrongLength ≡ productOf L A l
-  unfolding productOf
-  product-refused l h = rw (ne_eqb _ _ h)
+  pub product_refused : (l : List Float) → (length l % L.width ≡ 0 → ⊥) → refused wrong_length ≡ product_of L A l
+  unfolding product_of
+  product_refused l h = rw (ne_eqb _ _ h)
 
-  pub product-ends : (l : List Float) (acc : R) (p : ℕ) → length l % L.width ≡ 0 → Joining L A.mul (one_of A) l acc p → recordCount L l ≤ p → value acc ≡ productOf L A l
-  unfolding productOf
-  product-ends l acc p whole j h = rw (eq-eqb _ _ whole) (ap value (upto-end p (recordCount L l) (λ q s. A.mul s (recordAt L l q)) acc h j.rest))
+  pub product_ends : (l : List Float) (acc : R) (p : ℕ) → length l % L.width ≡ 0 → Joining L A.mul (one_of A) l acc p → record_count L l ≤ p → value acc ≡ product_of L A l
+  unfolding product_of
+  product_ends l acc p whole j h = rw (eq-eqb _ _ whole) (ap value (upto_end p (record_count L l) (λ q s. A.mul s (record_at L l q)) acc h j.rest))

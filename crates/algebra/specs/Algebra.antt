@@ -8,16 +8,16 @@ use Rattle.real.specs.Sign.{sign_of}
 pub record Algebra (R : Type 0) : Type 0 where
   -- the real part, the record of a real part alone, and a record with another real part
   pub re : R → Float
-  pub fromRe : Float → R
-  pub withRe : R → Float → R
+  pub from_re : Float → R
+  pub with_re : R → Float → R
   pub add : R → R → R
   pub sub : R → R → R
   pub mul : R → R → R
   pub div : R → R → R
   pub neg : R → R
   -- a plain float multiplies or divides each part
-  pub mulFloat : R → Float → R
-  pub divFloat : R → Float → R
+  pub mul_float : R → Float → R
+  pub div_float : R → Float → R
   -- the record of f(x), from f's value and its first three derivatives at the real part of x
   pub chain : R → Float → Float → Float → Float → R
 
@@ -25,30 +25,30 @@ pub record Algebra (R : Type 0) : Type 0 where
 abbrev pub reals : Algebra Float
 reals = record {
   re = λ x. x;
-  fromRe = λ x. x;
-  withRe = λ x f. f;
+  from_re = λ x. x;
+  with_re = λ x f. f;
   add = ◌⊕◌;
   sub = ◌⊖◌;
   mul = ◌⊗◌;
   div = λ x y. x ⊗ (one ⊘ y);
   neg = neg;
-  mulFloat = ◌⊗◌;
-  divFloat = ◌⊘◌;
+  mul_float = ◌⊗◌;
+  div_float = ◌⊘◌;
   chain = λ x f0 f1 f2 f3. f0;
 }
 
 -- The map h keeps the operations and the real part: to map what is done over A is to do it over B on what is mapped.
 pub record Keeps {R S : Type 0} (A : Algebra R) (B : Algebra S) (h : R → S) : Type 0 where
   pub re : (x : R) → A.re x ≡ B.re (h x)
-  pub fromRe : (f : Float) → h (A.fromRe f) ≡ B.fromRe f
-  pub withRe : (x : R) (f : Float) → h (A.withRe x f) ≡ B.withRe (h x) f
+  pub from_re : (f : Float) → h (A.from_re f) ≡ B.from_re f
+  pub with_re : (x : R) (f : Float) → h (A.with_re x f) ≡ B.with_re (h x) f
   pub add : (x y : R) → h (A.add x y) ≡ B.add (h x) (h y)
   pub sub : (x y : R) → h (A.sub x y) ≡ B.sub (h x) (h y)
   pub mul : (x y : R) → h (A.mul x y) ≡ B.mul (h x) (h y)
   pub div : (x y : R) → h (A.div x y) ≡ B.div (h x) (h y)
   pub neg : (x : R) → h (A.neg x) ≡ B.neg (h x)
-  pub mulFloat : (x : R) (f : Float) → h (A.mulFloat x f) ≡ B.mulFloat (h x) f
-  pub divFloat : (x : R) (f : Float) → h (A.divFloat x f) ≡ B.divFloat (h x) f
+  pub mul_float : (x : R) (f : Float) → h (A.mul_float x f) ≡ B.mul_float (h x) f
+  pub div_float : (x : R) (f : Float) → h (A.div_float x f) ≡ B.div_float (h x) f
   pub chain : (x : R) (f0 f1 f2 f3 : Float) → h (A.chain x f0 f1 f2 f3) ≡ B.chain (h x) f0 f1 f2 f3
 
 -- Real parts come from real parts alone: what each record's instance is proved to be.
@@ -58,18 +58,18 @@ RealParts A = Keeps A reals A.re
 -- What every record has of these: the constants zero and one, sums with a plain float, the magnitude.
 module _ {R : Type 0} (A : Algebra R) where
   abbrev pub zero_of : R
-  zero_of = A.fromRe zero
+  zero_of = A.from_re zero
 
   abbrev pub one_of : R
-  one_of = A.fromRe one
+  one_of = A.from_re one
 
   -- a plain float is added to re alone
-  abbrev pub addFloat : R → Float → R
-  addFloat x f = A.withRe x (A.re x ⊕ f)
+  abbrev pub add_float : R → Float → R
+  add_float x f = A.with_re x (A.re x ⊕ f)
 
   -- a plain float is taken from re alone
-  abbrev pub subFloat : R → Float → R
-  subFloat x f = A.withRe x (A.re x ⊖ f)
+  abbrev pub sub_float : R → Float → R
+  sub_float x f = A.with_re x (A.re x ⊖ f)
 
   -- x where the sign bit of re is clear, else -x
   abbrev pub magnitude : R → R

@@ -31,21 +31,21 @@ tabulate f zero k = []
 tabulate f (suc d) k = f k ∷ tabulate f d (suc k)
 
 -- the real parts of the records that the floats hold, at w floats a record: the first of each w
-unfoldable pub realParts : ℕ → List Float → List Float
-realParts w l = tabulate (λ p. get_or l (p * w) float.zero) (length l / w) 0
+unfoldable pub real_parts : ℕ → List Float → List Float
+real_parts w l = tabulate (λ p. get_or l (p * w) float.zero) (length l / w) 0
 
 module _ {R : Type 0} (L : Layout R) where
   -- record number p: its parts start at p * width
-  abbrev pub recordAt : List Float → ℕ → R
-  recordAt l p = L.make (λ i. get_or l (p * L.width + i) float.zero)
+  abbrev pub record_at : List Float → ℕ → R
+  record_at l p = L.make (λ i. get_or l (p * L.width + i) float.zero)
 
   -- how many whole records the floats hold
-  abbrev pub recordCount : List Float → ℕ
-  recordCount l = length l / L.width
+  abbrev pub record_count : List Float → ℕ
+  record_count l = length l / L.width
 
   -- the records that the floats hold
   unfoldable pub decode : List Float → List R
-  decode l = tabulate (recordAt l) (recordCount l) 0
+  decode l = tabulate (record_at l) (record_count l) 0
 
   -- the records' parts, one record after the other
   unfoldable pub encode : List R → List Float
@@ -57,12 +57,12 @@ module _ {R : Type 0} (L : Layout R) where
     unfoldable pub sum_of : List Float → Outcome R
     sum_of l =
         cond (eqb (length l % L.width) 0)
-        (value (upto 0 (recordCount l) (λ p s. A.add s (recordAt l p)) (zero_of A)))
-        (refused refusal.wrongLength)
+        (value (upto 0 (record_count l) (λ p s. A.add s (record_at l p)) (zero_of A)))
+        (refused refusal.wrong_length)
 
     -- from one, left to right; a length that is no multiple of the width is refused 2
-    unfoldable pub productOf : List Float → Outcome R
-    productOf l =
+    unfoldable pub product_of : List Float → Outcome R
+    product_of l =
         cond (eqb (length l % L.width) 0)
-        (value (upto 0 (recordCount l) (λ p s. A.mul s (recordAt l p)) (one_of A)))
-        (refused refusal.wrongLength)
+        (value (upto 0 (record_count l) (λ p s. A.mul s (record_at l p)) (one_of A)))
+        (refused refusal.wrong_length)

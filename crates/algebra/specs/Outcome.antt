@@ -12,21 +12,21 @@ number_of (value x) = 0
 number_of (refused n) = n
 
 -- the outcome seen through a map of records
-abbrev pub mapOutcome : {R S : Type 0} → (R → S) → Outcome R → Outcome S
-mapOutcome h (value x) = value (h x)
-mapOutcome h (refused n) = refused n
+abbrev pub map_outcome : {R S : Type 0} → (R → S) → Outcome R → Outcome S
+map_outcome h (value x) = value (h x)
+map_outcome h (refused n) = refused n
 
 -- a record, or a refusal by its number with the place beside it: LU's column, the byte of a text
 pub data Placed (R : Type 0) : Type 0 where
   given : R → Placed R
-  refusedAt : ℕ → ℕ → Placed R
+  refused_at : ℕ → ℕ → Placed R
 
 -- the outcome without the place
-abbrev pub outcomeOf : {R : Type 0} → Placed R → Outcome R
-outcomeOf (given x) = value x
-outcomeOf (refusedAt number place) = refused number
+abbrev pub outcome_of : {R : Type 0} → Placed R → Outcome R
+outcome_of (given x) = value x
+outcome_of (refused_at number place) = refused number
 
 -- the place, 0 where nothing is refused
 abbrev pub place_of : {R : Type 0} → Placed R → ℕ
 place_of (given x) = 0
-place_of (refusedAt number place) = place
+place_of (refused_at number place) = place

@@ -13,8 +13,8 @@ use borrow.Author.Tests.{eq-eqb, ne_eqb}
 use Rattle.real.specs.Operations as float
 use Rattle.refusals.specs.Number as refusal
 use Rattle.algebra.specs.Algebra.{zero_of}
-use Rattle.algebra.specs.Flat.{decode, sum_of, productOf}
-use Rattle.algebra.specs.Outcome.{Outcome, value, refused, mapOutcome}
+use Rattle.algebra.specs.Flat.{decode, sum_of, product_of}
+use Rattle.algebra.specs.Outcome.{Outcome, value, refused, map_outcome}
 use Rattle.algebra.proofs.Laws.{Laws}
 use Rattle.calls.specs.declared.Binary.{Binary}
 use Rattle.calls.specs.declared.Binary.TheVariants.{Add, Sub, Mul, Div, AbsSub}
@@ -22,82 +22,82 @@ use Rattle.calls.specs.declared.Operation.TheVariants as operation
 use Rattle.calls.specs.declared.Call.{Call}
 use Rattle.calls.specs.declared.Call.TheVariants.{Record}
 use Rattle.calls.specs.Table.{line, line_of}
-use Rattle.floats.specs.Words.{firstFloats, words_of}
-use Rattle.calls.specs.Called.{Kind, fitting, call_of, calledOf, operatedOf, binaryNumber, binaryOf, answer_of, lentRecord, leaves, joinedLeft, summedOf, multipliedOf}
-use Rattle.calls.proofs.Lent.{lent, one_written, two-written}
+use Rattle.floats.specs.Words.{first_floats, words_of}
+use Rattle.calls.specs.Called.{Kind, fitting, call_of, called_of, operated_of, binary_number, binary_of, answer_of, lent_record, leaves, joined_left, summed_of, multiplied_of}
+use Rattle.calls.proofs.Lent.{lent, one_written, two_written}
 
 -- A call by number: the call that was found leaves it, of the three records that were read.
 module _ {R : Type 0} (K : Kind R) (Q : Laws K.algebra K.layout) (function : ℕ) (exponent : ℤ) (records floats out : List ℕ) where
-  pub called : (call : Call) (x y z : R) (left : ℕ × List ℕ) (l : List Float) (count : ℕ) → left ≡ leaves (mapOutcome words_of (answer_of K call x y z)) out → SFits w32 exponent
+  pub called : (call : Call) (x y z : R) (left : ℕ × List ℕ) (l : List Float) (count : ℕ) → left ≡ leaves (map_outcome words_of (answer_of K call x y z)) out → SFits w32 exponent
       → call ≡ call_of K.layout.width function (to_z w32 (of_z w32 exponent)) (length records) floats (length out)
       → x ≡ get_or (decode K.layout l) 0 (zero_of K.algebra) → y ≡ get_or (decode K.layout l) 1 (zero_of K.algebra) → z ≡ get_or (decode K.layout l) 2 (zero_of K.algebra)
-      → l ≡ firstFloats records count → length l ≡ 3 * K.layout.width → left ≡ calledOf K function exponent records floats out
-  unfolding calledOf
+      → l ≡ first_floats records count → length l ≡ 3 * K.layout.width → left ≡ called_of K function exponent records floats out
+  unfolding called_of
   called call x y z left l count h fits told e f g first size =
       let found = rw (to_z-of_z w32 exponent fits) at told in
       rw (← found, ← lent Q records l count first 0 x (omega arith) e, ← lent Q records l count first 1 y (omega arith) f, ← lent Q records l count first 2 z (omega arith) g) h
 
 -- the line of the number of an operation on two records
-binary-line : (op : Binary) → line_of (binaryNumber op) float.zero float.zero (pos 0) ≡ line 2 0 (Record (operation.Binary op))
-binary-line Add = refl
-binary-line Sub = refl
-binary-line Mul = refl
-binary-line Div = refl
-binary-line AbsSub = refl
+binary_line : (op : Binary) → line_of (binary_number op) float.zero float.zero (pos 0) ≡ line 2 0 (Record (operation.Binary op))
+binary_line Add = refl
+binary_line Sub = refl
+binary_line Mul = refl
+binary_line Div = refl
+binary_line AbsSub = refl
 
 -- An operation on two records, by the lengths alone.
 module _ {R : Type 0} (K : Kind R) (Q : Laws K.algebra K.layout) (op : Binary) (records out : List ℕ) where
-  pub operated : (x y r : R) (left : ℕ × List ℕ) (l : List Float) (count : ℕ) → left ≡ leaves (mapOutcome words_of (mapOutcome K.layout.parts (value r))) out
-      → r ≡ binaryOf K op x y → length records ≡ 2 * K.layout.width → length out ≡ K.layout.width
+  pub operated : (x y r : R) (left : ℕ × List ℕ) (l : List Float) (count : ℕ) → left ≡ leaves (map_outcome words_of (map_outcome K.layout.parts (value r))) out
+      → r ≡ binary_of K op x y → length records ≡ 2 * K.layout.width → length out ≡ K.layout.width
       → x ≡ get_or (decode K.layout l) 0 (zero_of K.algebra) → y ≡ get_or (decode K.layout l) 1 (zero_of K.algebra)
-      → l ≡ firstFloats records count → length l ≡ 2 * K.layout.width → left ≡ operatedOf K op records out
-  unfolding operatedOf calledOf call_of fitting
+      → l ≡ first_floats records count → length l ≡ 2 * K.layout.width → left ≡ operated_of K op records out
+  unfolding operated_of called_of call_of fitting
   operated x y r left l count h g two one e f first size =
-      rw (binary-line op, eq-eqb _ _ two, eq-eqb _ _ one, ← lent Q records l count first 0 x (omega arith) e, ← lent Q records l count first 1 y (omega arith) f, ← g) h
+      rw (binary_line op, eq-eqb _ _ two, eq-eqb _ _ one, ← lent Q records l count first 0 x (omega arith) e, ← lent Q records l count first 1 y (omega arith) f, ← g) h
 
 module _ {R : Type 0} (K : Kind R) (op : Binary) (records out : List ℕ) where
-  pub operated-records : (length records ≡ 2 * K.layout.width → ⊥) → (refusal.wrongLength, out) ≡ operatedOf K op records out
-  unfolding operatedOf calledOf call_of fitting
-  operated-records other = rw (binary-line op, ne_eqb _ _ other)
+  pub operated_records : (length records ≡ 2 * K.layout.width → ⊥) → (refusal.wrong_length, out) ≡ operated_of K op records out
+  unfolding operated_of called_of call_of fitting
+  operated_records other = rw (binary_line op, ne_eqb _ _ other)
 
-  pub operated-out : length records ≡ 2 * K.layout.width → (length out ≡ K.layout.width → ⊥) → (refusal.wrongLength, out) ≡ operatedOf K op records out
-  unfolding operatedOf calledOf call_of fitting
-  operated-out two other = rw (binary-line op, eq-eqb _ _ two, ne_eqb _ _ other)
+  pub operated_out : length records ≡ 2 * K.layout.width → (length out ≡ K.layout.width → ⊥) → (refusal.wrong_length, out) ≡ operated_of K op records out
+  unfolding operated_of called_of call_of fitting
+  operated_out two other = rw (binary_line op, eq-eqb _ _ two, ne_eqb _ _ other)
 
 -- A sum and a product: what joins the run, left in floats.
 module _ {R : Type 0} (K : Kind R) (run out : List Float) (joined : Outcome R) (left : ℕ × List Float) where
-  pub summed : joined ≡ sum_of K.layout K.algebra run → left ≡ joinedLeft K joined out → left ≡ summedOf K run out
-  unfolding summedOf
+  pub summed : joined ≡ sum_of K.layout K.algebra run → left ≡ joined_left K joined out → left ≡ summed_of K run out
+  unfolding summed_of
   summed e h = rw (← e) h
 
-  pub multiplied : joined ≡ productOf K.layout K.algebra run → left ≡ joinedLeft K joined out → left ≡ multipliedOf K run out
-  unfolding multipliedOf
+  pub multiplied : joined ≡ product_of K.layout K.algebra run → left ≡ joined_left K joined out → left ≡ multiplied_of K run out
+  unfolding multiplied_of
   multiplied e h = rw (← e) h
 
 -- Both records' words.
 module _ {R : Type 0} (K : Kind R) (Q : Laws K.algebra K.layout) where
-  pub leaves-both : (s c : R) (m k : List R) (l : List Float) (left : List ℕ) → left ≡ words_of l → length l ≡ K.layout.width + K.layout.width
+  pub leaves_both : (s c : R) (m k : List R) (l : List Float) (left : List ℕ) → left ≡ words_of l → length l ≡ K.layout.width + K.layout.width
       → k ≡ set m 0 s → decode K.layout l ≡ set k 1 c → left ≡ words_of (K.layout.parts s ++ K.layout.parts c)
-  leaves-both s c m k l left e size first then = e ∙ ap words_of (two-written Q l m k s c size first then)
+  leaves_both s c m k l left e size first then = e ∙ ap words_of (two_written Q l m k s c size first then)
 
 -- An answer of the record's own type, read as an outcome: its value is the record, its refusal the number.
 module _ {R : Type 0} (K : Kind R) (Q : Laws K.algebra K.layout) {A : Type 0} (outcome : A → Outcome R) where
-  pub leave-value : (made : R → A) → ((x : R) → outcome (made x) ≡ value x) → (answer : A) (x : R) (m : List R) (l : List Float) (out left : List ℕ) → answer ≡ made x
+  pub leave_value : (made : R → A) → ((x : R) → outcome (made x) ≡ value x) → (answer : A) (x : R) (m : List R) (l : List Float) (out left : List ℕ) → answer ≡ made x
       → left ≡ words_of l → length l ≡ K.layout.width → decode K.layout l ≡ set m 0 x
-      → (0, left) ≡ leaves (mapOutcome words_of (mapOutcome K.layout.parts (outcome answer))) out
-  leave-value made is answer x m l out left told e size stored = rw (told, is x, e, one_written Q l m x size stored)
+      → (0, left) ≡ leaves (map_outcome words_of (map_outcome K.layout.parts (outcome answer))) out
+  leave_value made is answer x m l out left told e size stored = rw (told, is x, e, one_written Q l m x size stored)
 
-  pub leave-refused : (made : ℕ → A) → ((n : ℕ) → outcome (made n) ≡ refused n) → (answer : A) (n : ℕ) (out : List ℕ) → answer ≡ made n
-      → (n, out) ≡ leaves (mapOutcome words_of (mapOutcome K.layout.parts (outcome answer))) out
-  leave-refused made is answer n out told = rw (told, is n)
+  pub leave_refused : (made : ℕ → A) → ((n : ℕ) → outcome (made n) ≡ refused n) → (answer : A) (n : ℕ) (out : List ℕ) → answer ≡ made n
+      → (n, out) ≡ leaves (map_outcome words_of (map_outcome K.layout.parts (outcome answer))) out
+  leave_refused made is answer n out told = rw (told, is n)
 
-  pub join-length : (answer : A) (out : List Float) → (length out ≡ K.layout.width → ⊥) → (refusal.wrongLength, out) ≡ joinedLeft K (outcome answer) out
-  join-length answer out other = rw (ne_eqb _ _ other)
+  pub join_length : (answer : A) (out : List Float) → (length out ≡ K.layout.width → ⊥) → (refusal.wrong_length, out) ≡ joined_left K (outcome answer) out
+  join_length answer out other = rw (ne_eqb _ _ other)
 
-  pub join-value : (made : R → A) → ((x : R) → outcome (made x) ≡ value x) → (answer : A) (x : R) (m : List R) (out left : List Float) → answer ≡ made x
-      → length out ≡ K.layout.width → length left ≡ length out → decode K.layout left ≡ set m 0 x → (0, left) ≡ joinedLeft K (outcome answer) out
-  join-value made is answer x m out left told one kept stored = rw (eq-eqb _ _ one, told, is x, one_written Q left m x (kept ∙ one) stored)
+  pub join_value : (made : R → A) → ((x : R) → outcome (made x) ≡ value x) → (answer : A) (x : R) (m : List R) (out left : List Float) → answer ≡ made x
+      → length out ≡ K.layout.width → length left ≡ length out → decode K.layout left ≡ set m 0 x → (0, left) ≡ joined_left K (outcome answer) out
+  join_value made is answer x m out left told one kept stored = rw (eq-eqb _ _ one, told, is x, one_written Q left m x (kept ∙ one) stored)
 
-  pub join-refused : (made : ℕ → A) → ((n : ℕ) → outcome (made n) ≡ refused n) → (answer : A) (n : ℕ) (out : List Float) → length out ≡ K.layout.width → answer ≡ made n
-      → (n, out) ≡ joinedLeft K (outcome answer) out
-  join-refused made is answer n out one told = rw (eq-eqb _ _ one, told, is n)
+  pub join_refused : (made : ℕ → A) → ((n : ℕ) → outcome (made n) ≡ refused n) → (answer : A) (n : ℕ) (out : List Float) → length out ≡ K.layout.width → answer ≡ made n
+      → (n, out) ≡ joined_left K (outcome answer) out
+  join_refused made is answer n out one told = rw (eq-eqb _ _ one, told, is n)

@@ -7,27 +7,27 @@ use lib.ListN.{length, get_or, set}
 use lib.Ieee.{Float}
 use Rattle.real.specs.Operations as float
 use Rattle.algebra.specs.Algebra.{Algebra, zero_of}
-use Rattle.algebra.specs.Flat.{Layout, recordAt, decode, encode}
+use Rattle.algebra.specs.Flat.{Layout, record_at, decode, encode}
 use Rattle.algebra.proofs.Laws.{Laws}
-use Rattle.algebra.proofs.Flat.{tabulate-length, tabulate-at}
-use Rattle.algebra.proofs.Cells.{holds, parts-of, read_at}
-use Rattle.floats.specs.Words.{floatsOf, firstFloats}
+use Rattle.algebra.proofs.Flat.{tabulate_length, tabulate_at}
+use Rattle.algebra.proofs.Cells.{holds, parts_of, read_at}
+use Rattle.floats.specs.Words.{floats_of, first_floats}
 
 -- A record that the reader gives of the first floats of the words is the one that the words hold.
-module _ {R : Type 0} {A : Algebra R} {L : Layout R} (Q : Laws A L) (words : List ℕ) (l : List Float) (count : ℕ) (first : l ≡ firstFloats words count) where
-  as_read : (p : ℕ) → p * L.width + L.width ≤ length l → (i : ℕ) → i < L.width → get_or l (p * L.width + i) float.zero ≡ get_or (floatsOf words) (p * L.width + i) float.zero
-  unfolding firstFloats
+module _ {R : Type 0} {A : Algebra R} {L : Layout R} (Q : Laws A L) (words : List ℕ) (l : List Float) (count : ℕ) (first : l ≡ first_floats words count) where
+  as_read : (p : ℕ) → p * L.width + L.width ≤ length l → (i : ℕ) → i < L.width → get_or l (p * L.width + i) float.zero ≡ get_or (floats_of words) (p * L.width + i) float.zero
+  unfolding first_floats
   as_read p h i b =
       let at = p * L.width + i in
-      let word : ℕ → Float = λ k. get_or (floatsOf words) k float.zero in
-      let size : length l ≡ count = ap length first ∙ tabulate-length word count 0 in
-      ap (λ (m : List Float). get_or m at float.zero) first ∙ tabulate-at word count 0 at float.zero (omega arith) ∙ ap word (omega arith)
+      let word : ℕ → Float = λ k. get_or (floats_of words) k float.zero in
+      let size : length l ≡ count = ap length first ∙ tabulate_length word count 0 in
+      ap (λ (m : List Float). get_or m at float.zero) first ∙ tabulate_at word count 0 at float.zero (omega arith) ∙ ap word (omega arith)
 
-  pub lent : (p : ℕ) (x : R) → p * L.width + L.width ≤ length l → x ≡ get_or (decode L l) p (zero_of A) → x ≡ recordAt L (floatsOf words) p
+  pub lent : (p : ℕ) (x : R) → p * L.width + L.width ≤ length l → x ≡ get_or (decode L l) p (zero_of A) → x ≡ record_at L (floats_of words) p
   lent p x h e =
       let z = Q.lawful.positive in
       e ∙ sym (read_at Q l p float.zero (omega arith))
-      ∙ Q.lawful.reads (λ i. get_or l (p * L.width + i) float.zero) (λ i. get_or (floatsOf words) (p * L.width + i) float.zero) (as_read p h)
+      ∙ Q.lawful.reads (λ i. get_or l (p * L.width + i) float.zero) (λ i. get_or (floats_of words) (p * L.width + i) float.zero) (as_read p h)
 
 -- Records that the record's writer stored one after the other, and no float more: their parts.
 module _ {R : Type 0} {A : Algebra R} {L : Layout R} (Q : Laws A L) (l : List Float) where
@@ -36,23 +36,23 @@ module _ {R : Type 0} {A : Algebra R} {L : Layout R} (Q : Laws A L) (l : List Fl
   the_one (a ∷ []) x h = refl
   the_one (a ∷ b ∷ m) x h = absurd (omega arith)
 
-  the-two : (m : List R) (x y : R) → length (set (set m 0 x) 1 y) ≡ 2 → set (set m 0 x) 1 y ≡ x ∷ y ∷ []
-  the-two [] x y h = absurd (omega arith)
-  the-two (a ∷ []) x y h = absurd (omega arith)
-  the-two (a ∷ b ∷ []) x y h = refl
-  the-two (a ∷ b ∷ c ∷ m) x y h = absurd (omega arith)
+  the_two : (m : List R) (x y : R) → length (set (set m 0 x) 1 y) ≡ 2 → set (set m 0 x) 1 y ≡ x ∷ y ∷ []
+  the_two [] x y h = absurd (omega arith)
+  the_two (a ∷ []) x y h = absurd (omega arith)
+  the_two (a ∷ b ∷ []) x y h = refl
+  the_two (a ∷ b ∷ c ∷ m) x y h = absurd (omega arith)
 
   pub one_written : (m : List R) (x : R) → length l ≡ L.width → decode L l ≡ set m 0 x → l ≡ L.parts x
   unfolding encode
   one_written m x size e =
       let whole : length l ≡ 1 * L.width = omega arith in
       let held = sym (ap length e) ∙ holds Q l 1 whole in
-      parts-of Q l 1 (x ∷ []) whole (e ∙ the_one m x held) ∙ append-nil (L.parts x)
+      parts_of Q l 1 (x ∷ []) whole (e ∙ the_one m x held) ∙ append-nil (L.parts x)
 
-  pub two-written : (m k : List R) (x y : R) → length l ≡ L.width + L.width → k ≡ set m 0 x → decode L l ≡ set k 1 y → l ≡ L.parts x ++ L.parts y
+  pub two_written : (m k : List R) (x y : R) → length l ≡ L.width + L.width → k ≡ set m 0 x → decode L l ≡ set k 1 y → l ≡ L.parts x ++ L.parts y
   unfolding encode
-  two-written m k x y size first e =
+  two_written m k x y size first e =
       let whole : length l ≡ 2 * L.width = omega arith in
       let stored = e ∙ ap (λ (r : List R). set r 1 y) first in
       let held = sym (ap length stored) ∙ holds Q l 2 whole in
-      parts-of Q l 2 (x ∷ y ∷ []) whole (stored ∙ the-two m x y held) ∙ ap (λ (r : List Float). L.parts x ++ r) (append-nil (L.parts y))
+      parts_of Q l 2 (x ∷ y ∷ []) whole (stored ∙ the_two m x y held) ∙ ap (λ (r : List Float). L.parts x ++ r) (append-nil (L.parts y))

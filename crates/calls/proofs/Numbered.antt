@@ -15,14 +15,14 @@ abbrev pub Missing : {T : Type 0} → ℕ → List (ℕ × T) → Type 0 → Typ
 Missing n [] known = known
 Missing n (p ∷ l) known = Missing n l (known × (n ≡ p.0 → ⊥))
 
-known-before : {T : Type 0} (n : ℕ) (l : List (ℕ × T)) (known : Type 0) → Missing n l known → known
-known-before n [] known h = h
-known-before n (p ∷ l) known h = (known-before n l (known × (n ≡ p.0 → ⊥)) h).0
+known_before : {T : Type 0} (n : ℕ) (l : List (ℕ × T)) (known : Type 0) → Missing n l known → known
+known_before n [] known h = h
+known_before n (p ∷ l) known h = (known_before n l (known × (n ≡ p.0 → ⊥)) h).0
 
 other_after : {T : Type 0} (n : ℕ) (l : List (ℕ × T)) (other : T) (known : Type 0) → Missing n l known → find n l other ≡ other
 other_after n [] other known h = refl
 other_after n (p ∷ l) other known h =
-    rw (ne_eqb n p.0 (known-before n l (known × (n ≡ p.0 → ⊥)) h).1)
+    rw (ne_eqb n p.0 (known_before n l (known × (n ≡ p.0 → ⊥)) h).1)
     (other_after n l other (known × (n ≡ p.0 → ⊥)) h)
 
 -- a table that depends on nothing
@@ -43,19 +43,19 @@ module _ {T X : Type 0} where
 
 -- one that depends on two floats
 module _ {T : Type 0} where
-  pub numbered-floats : (line : ℕ → Float → Float → T) (n k : ℕ) (a b : Float) (r : T) → n ≡ k → r ≡ line k a b → r ≡ line n a b
-  numbered-floats line n k a b r told e = rw told e
+  pub numbered_floats : (line : ℕ → Float → Float → T) (n k : ℕ) (a b : Float) (r : T) → n ≡ k → r ≡ line k a b → r ≡ line n a b
+  numbered_floats line n k a b r told e = rw told e
 
-  pub none-floats : (table : Float → Float → List (ℕ × T)) (other : ℕ → Float → Float → T) (n : ℕ) (a b : Float) (r : T)
+  pub none_floats : (table : Float → Float → List (ℕ × T)) (other : ℕ → Float → Float → T) (n : ℕ) (a b : Float) (r : T)
       → Missing n (table a b) Unit → r ≡ other n a b → r ≡ find n (table a b) (other n a b)
-  none-floats table other n a b r h e = none (table a b) (other n a b) n r h e
+  none_floats table other n a b r h e = none (table a b) (other n a b) n r h e
 
 -- one that depends on two floats and an exponent, which the machine hands on as the number that its 32 bits are of
 module _ {T : Type 0} where
-  pub numbered-exponent : (line : ℕ → Float → Float → ℤ → T) (n k : ℕ) (a b : Float) (exponent : ℤ) (r : T)
+  pub numbered_exponent : (line : ℕ → Float → Float → ℤ → T) (n k : ℕ) (a b : Float) (exponent : ℤ) (r : T)
       → SFits w32 exponent → n ≡ k → r ≡ line k a b (to_z w32 (of_z w32 exponent)) → r ≡ line n a b exponent
-  numbered-exponent line n k a b exponent r fits told e = rw told (rw (to_z-of_z w32 exponent fits) at e)
+  numbered_exponent line n k a b exponent r fits told e = rw told (rw (to_z-of_z w32 exponent fits) at e)
 
-  pub none-exponent : (table : Float → Float → ℤ → List (ℕ × T)) (other : ℕ → Float → Float → ℤ → T) (n : ℕ) (a b : Float) (exponent : ℤ) (r : T)
+  pub none_exponent : (table : Float → Float → ℤ → List (ℕ × T)) (other : ℕ → Float → Float → ℤ → T) (n : ℕ) (a b : Float) (exponent : ℤ) (r : T)
       → SFits w32 exponent → Missing n (table a b exponent) Unit → r ≡ other n a b (to_z w32 (of_z w32 exponent)) → r ≡ find n (table a b exponent) (other n a b exponent)
-  none-exponent table other n a b exponent r fits h e = none (table a b exponent) (other n a b exponent) n r h (rw (to_z-of_z w32 exponent fits) at e)
+  none_exponent table other n a b exponent r fits h e = none (table a b exponent) (other n a b exponent) n r h (rw (to_z-of_z w32 exponent fits) at e)

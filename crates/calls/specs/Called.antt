@@ -4,10 +4,10 @@ use Rattle.std.specs.Float.Ieee.{eq, lt, le}
 use Rattle.refusals.specs.Number as refusal
 use Rattle.real.specs.Operations as float
 use Rattle.real.specs.Sign.{sign_of}
-use Rattle.algebra.specs.Algebra.{Algebra, addFloat, subFloat, magnitude}
-use Rattle.algebra.specs.Flat.{Layout, recordAt, sum_of, productOf}
-use Rattle.algebra.specs.Outcome.{Outcome, value, refused, mapOutcome}
-use Rattle.derivatives.specs.Apply.{applyOf, sinOf, cosOf, atan2Of, mulAddOf, powdOf, absSubOf, signumOf}
+use Rattle.algebra.specs.Algebra.{Algebra, add_float, sub_float, magnitude}
+use Rattle.algebra.specs.Flat.{Layout, record_at, sum_of, product_of}
+use Rattle.algebra.specs.Outcome.{Outcome, value, refused, map_outcome}
+use Rattle.derivatives.specs.Apply.{apply_of, sin_of, cos_of, atan2_of, mul_add_of, powd_of, abs_sub_of, signum_of}
 use Rattle.calls.specs.declared.Predicate.{Predicate}
 use Rattle.calls.specs.declared.Predicate.TheVariants.{Eq, Lt, Le, Gt, Ge, IsNegative, IsPositive, IsZero, IsOne}
 use Rattle.calls.specs.declared.Unary.{Unary}
@@ -15,14 +15,14 @@ use Rattle.calls.specs.declared.Unary.TheVariants as unary
 use Rattle.calls.specs.declared.Binary.{Binary}
 use Rattle.calls.specs.declared.Binary.TheVariants as binary
 use Rattle.calls.specs.declared.ByFloat.{ByFloat}
-use Rattle.calls.specs.declared.ByFloat.TheVariants as byFloat
+use Rattle.calls.specs.declared.ByFloat.TheVariants as by_float
 use Rattle.calls.specs.declared.Operation.{Operation}
 use Rattle.calls.specs.declared.Operation.TheVariants as operation
 use Rattle.calls.specs.declared.Call.{Call}
 use Rattle.calls.specs.declared.Call.TheVariants.{Unknown, Truth, SinCos, Record}
 use Rattle.calls.specs.declared.Line.{Line}
 use Rattle.calls.specs.Table.{line_of}
-use Rattle.floats.specs.Words.{floatsOf, words_of}
+use Rattle.floats.specs.Words.{floats_of, words_of}
 
 -- A record type by what calls use of it: its operations, its layout in flat floats, how many derivatives it carries, and `derivative`, `derivative1`, .. by function number, refused 2 where the
 -- record has no such one.
@@ -49,12 +49,12 @@ abbrev pub truth : Bool → Float
 truth holds = cond holds float.one float.zero
 
 -- the function number of an operation on two records
-abbrev pub binaryNumber : Binary → ℕ
-binaryNumber binary.Add = 0x09
-binaryNumber binary.Sub = 0x0a
-binaryNumber binary.Mul = 0x0b
-binaryNumber binary.Div = 0x0c
-binaryNumber binary.AbsSub = 0x17
+abbrev pub binary_number : Binary → ℕ
+binary_number binary.Add = 0x09
+binary_number binary.Sub = 0x0a
+binary_number binary.Mul = 0x0b
+binary_number binary.Div = 0x0c
+binary_number binary.AbsSub = 0x17
 
 -- how many floats a call gives, at `width` floats a record
 abbrev pub size_of : ℕ → Call → ℕ
@@ -78,7 +78,7 @@ fitting width r records floats out =
 -- the call of a function number; the floats are lent as words
 unfoldable pub call_of : ℕ → ℕ → ℤ → ℕ → List ℕ → ℕ → Call
 call_of width function exponent records floats out =
-    fitting width (line_of function (get_or (floatsOf floats) 0 float.zero) (get_or (floatsOf floats) 1 float.zero) exponent) records (length floats) out
+    fitting width (line_of function (get_or (floats_of floats) 0 float.zero) (get_or (floats_of floats) 1 float.zero) exponent) records (length floats) out
 
 -- what a call leaves: the number 0 and what it gives, or the number that it is refused by and out as it was
 abbrev pub leaves : {T : Type 0} → Outcome (List T) → List T → ℕ × List T
@@ -86,63 +86,63 @@ leaves (value given) out = (0, given)
 leaves (refused number) out = (number, out)
 
 module _ {R : Type 0} (K : Kind R) where
-  abbrev pub unaryOf : Unary → R → R
-  unaryOf unary.Neg x = K.algebra.neg x
-  unaryOf unary.Abs x = magnitude K.algebra x
-  unaryOf unary.Signum x = signumOf K.algebra x
+  abbrev pub unary_of : Unary → R → R
+  unary_of unary.Neg x = K.algebra.neg x
+  unary_of unary.Abs x = magnitude K.algebra x
+  unary_of unary.Signum x = signum_of K.algebra x
 
-  abbrev pub binaryOf : Binary → R → R → R
-  binaryOf binary.Add x y = K.algebra.add x y
-  binaryOf binary.Sub x y = K.algebra.sub x y
-  binaryOf binary.Mul x y = K.algebra.mul x y
-  binaryOf binary.Div x y = K.algebra.div x y
-  binaryOf binary.AbsSub x y = absSubOf K.algebra x y
+  abbrev pub binary_of : Binary → R → R → R
+  binary_of binary.Add x y = K.algebra.add x y
+  binary_of binary.Sub x y = K.algebra.sub x y
+  binary_of binary.Mul x y = K.algebra.mul x y
+  binary_of binary.Div x y = K.algebra.div x y
+  binary_of binary.AbsSub x y = abs_sub_of K.algebra x y
 
-  abbrev pub byFloatOf : ByFloat → R → Float → R
-  byFloatOf byFloat.Mul x f = K.algebra.mulFloat x f
-  byFloatOf byFloat.Div x f = K.algebra.divFloat x f
-  byFloatOf byFloat.Add x f = addFloat K.algebra x f
-  byFloatOf byFloat.Sub x f = subFloat K.algebra x f
+  abbrev pub by_float_of : ByFloat → R → Float → R
+  by_float_of by_float.Mul x f = K.algebra.mul_float x f
+  by_float_of by_float.Div x f = K.algebra.div_float x f
+  by_float_of by_float.Add x f = add_float K.algebra x f
+  by_float_of by_float.Sub x f = sub_float K.algebra x f
 
   -- what gives one record
-  abbrev pub operateOf : Operation → R → R → R → Outcome R
-  operateOf (operation.FromRe re) x y z = value (K.algebra.fromRe re)
-  operateOf (operation.Derivative function) x y z = K.derivative function x
-  operateOf (operation.Unary op) x y z = value (unaryOf op x)
-  operateOf (operation.Binary op) x y z = value (binaryOf op x y)
-  operateOf (operation.ByFloat op f) x y z = value (byFloatOf op x f)
-  operateOf (operation.Atan2 atan quadrant) x y z = value (atan2Of K.algebra x y atan quadrant)
-  operateOf operation.MulAdd x y z = value (mulAddOf K.algebra x y z)
-  operateOf (operation.Powd ln exp) x y z = value (powdOf K.algebra x y ln exp)
-  operateOf (operation.Request f) x y z = applyOf K.algebra K.nderiv x f
+  abbrev pub operate_of : Operation → R → R → R → Outcome R
+  operate_of (operation.FromRe re) x y z = value (K.algebra.from_re re)
+  operate_of (operation.Derivative function) x y z = K.derivative function x
+  operate_of (operation.Unary op) x y z = value (unary_of op x)
+  operate_of (operation.Binary op) x y z = value (binary_of op x y)
+  operate_of (operation.ByFloat op f) x y z = value (by_float_of op x f)
+  operate_of (operation.Atan2 atan quadrant) x y z = value (atan2_of K.algebra x y atan quadrant)
+  operate_of operation.MulAdd x y z = value (mul_add_of K.algebra x y z)
+  operate_of (operation.Powd ln exp) x y z = value (powd_of K.algebra x y ln exp)
+  operate_of (operation.Request f) x y z = apply_of K.algebra K.nderiv x f
 
   -- what a call gives, as floats
   abbrev pub answer_of : Call → R → R → R → Outcome (List Float)
-  answer_of Unknown x y z = refused refusal.wrongLength
+  answer_of Unknown x y z = refused refusal.wrong_length
   answer_of (Truth predicate) x y z = value (truth (holds predicate (K.algebra.re x) (K.algebra.re y)) ∷ [])
-  answer_of (SinCos sin cos) x y z = value (K.layout.parts (sinOf K.algebra x sin cos) ++ K.layout.parts (cosOf K.algebra x sin cos))
-  answer_of (Record op) x y z = mapOutcome K.layout.parts (operateOf op x y z)
+  answer_of (SinCos sin cos) x y z = value (K.layout.parts (sin_of K.algebra x sin cos) ++ K.layout.parts (cos_of K.algebra x sin cos))
+  answer_of (Record op) x y z = map_outcome K.layout.parts (operate_of op x y z)
 
   -- record number p of the words
-  abbrev pub lentRecord : List ℕ → ℕ → R
-  lentRecord words p = recordAt K.layout (floatsOf words) p
+  abbrev pub lent_record : List ℕ → ℕ → R
+  lent_record words p = record_at K.layout (floats_of words) p
 
   -- what a call by number leaves, where records, floats and out are lent as words
-  unfoldable pub calledOf : ℕ → ℤ → List ℕ → List ℕ → List ℕ → ℕ × List ℕ
-  calledOf function exponent records floats out =
+  unfoldable pub called_of : ℕ → ℤ → List ℕ → List ℕ → List ℕ → ℕ × List ℕ
+  called_of function exponent records floats out =
       let call = call_of K.layout.width function exponent (length records) floats (length out) in
-      leaves (mapOutcome words_of (answer_of call (lentRecord records 0) (lentRecord records 1) (lentRecord records 2))) out
+      leaves (map_outcome words_of (answer_of call (lent_record records 0) (lent_record records 1) (lent_record records 2))) out
 
   -- what an operation on two records leaves: the call of its number, without floats
-  unfoldable pub operatedOf : Binary → List ℕ → List ℕ → ℕ × List ℕ
-  operatedOf op records out = calledOf (binaryNumber op) (pos 0) records [] out
+  unfoldable pub operated_of : Binary → List ℕ → List ℕ → ℕ × List ℕ
+  operated_of op records out = called_of (binary_number op) (pos 0) records [] out
 
   -- what a sum or a product of a run of flat floats leaves, where out is one record
-  abbrev pub joinedLeft : Outcome R → List Float → ℕ × List Float
-  joinedLeft joined out = cond (eqb (length out) K.layout.width) (leaves (mapOutcome K.layout.parts joined) out) (refusal.wrongLength, out)
+  abbrev pub joined_left : Outcome R → List Float → ℕ × List Float
+  joined_left joined out = cond (eqb (length out) K.layout.width) (leaves (map_outcome K.layout.parts joined) out) (refusal.wrong_length, out)
 
-  unfoldable pub summedOf : List Float → List Float → ℕ × List Float
-  summedOf run out = joinedLeft (sum_of K.layout K.algebra run) out
+  unfoldable pub summed_of : List Float → List Float → ℕ × List Float
+  summed_of run out = joined_left (sum_of K.layout K.algebra run) out
 
-  unfoldable pub multipliedOf : List Float → List Float → ℕ × List Float
-  multipliedOf run out = joinedLeft (productOf K.layout K.algebra run) out
+  unfoldable pub multiplied_of : List Float → List Float → ℕ × List Float
+  multiplied_of run out = joined_left (product_of K.layout K.algebra run) out

@@ -16,19 +16,19 @@ abs_neg : (n : ℕ) → nat_abs (neg_ℤ (pos n)) ≡ n
 abs_neg zero = refl
 abs_neg (suc n) = refl
 
-abs-mul : (a b : ℤ) → nat_abs (a *ℤ b) ≡ nat_abs a * nat_abs b
-abs-mul (pos a) (pos b) = refl
-abs-mul (pos a) (negsuc b) = abs_neg (a * suc b)
-abs-mul (negsuc a) (pos b) = abs_neg (suc a * b)
-abs-mul (negsuc a) (negsuc b) = refl
+abs_mul : (a b : ℤ) → nat_abs (a *ℤ b) ≡ nat_abs a * nat_abs b
+abs_mul (pos a) (pos b) = refl
+abs_mul (pos a) (negsuc b) = abs_neg (a * suc b)
+abs_mul (negsuc a) (pos b) = abs_neg (suc a * b)
+abs_mul (negsuc a) (negsuc b) = refl
 
-abs-pick : (t : Bool) (a b k : ℕ) → a ≤ k → b ≤ k → nat_abs (cond t (negsuc a) (pos b)) ≤ suc k
-abs-pick true a b k p q = omega arith
-abs-pick false a b k p q = omega arith
+abs_pick : (t : Bool) (a b k : ℕ) → a ≤ k → b ≤ k → nat_abs (cond t (negsuc a) (pos b)) ≤ suc k
+abs_pick true a b k p q = omega arith
+abs_pick false a b k p q = omega arith
 
-abs-sub : (a : ℤ) (j : ℕ) → nat_abs (a +ℤ negsuc j) ≤ nat_abs a + suc j
-abs-sub (pos n) j = le_trans (abs-pick (ltb n (suc j)) (suc j - suc n) (n - suc j) (n + j) (omega arith) (omega arith)) (omega arith)
-abs-sub (negsuc n) j = omega arith
+abs_sub : (a : ℤ) (j : ℕ) → nat_abs (a +ℤ negsuc j) ≤ nat_abs a + suc j
+abs_sub (pos n) j = le_trans (abs_pick (ltb n (suc j)) (suc j - suc n) (n - suc j) (n + j) (omega arith) (omega arith)) (omega arith)
+abs_sub (negsuc n) j = omega arith
 
 mag≤ : (z : ℤ) → mag z ≤ nat_abs z
 mag≤ (pos n) = le_refl n
@@ -45,38 +45,38 @@ falling3 e = falling2 e *ℤ (e -ℤ pos 2)
 
 module _ (e : ℤ) (small : nat_abs e ≤ nat_abs largest.exponent) where
   one_less : nat_abs (e -ℤ pos 1) ≤ 1025
-  one_less = le_trans (abs-sub e 0) (omega arith)
+  one_less = le_trans (abs_sub e 0) (omega arith)
 
-  two-less : nat_abs (e -ℤ pos 2) ≤ 1026
-  two-less = le_trans (abs-sub e 1) (omega arith)
+  two_less : nat_abs (e -ℤ pos 2) ≤ 1026
+  two_less = le_trans (abs_sub e 1) (omega arith)
 
   second : nat_abs (falling2 e) ≤ 1049600
-  second = rw (abs-mul e (e -ℤ pos 1)) (mul-le-mul small one_less)
+  second = rw (abs_mul e (e -ℤ pos 1)) (mul-le-mul small one_less)
 
   pub one_less_fits : SFits w32 (e -ℤ pos 1)
   one_less_fits = below 1025 _ one_less (lit< tt)
 
-  pub two-less-fits : SFits w32 (e -ℤ pos 2)
-  two-less-fits = below 1026 _ two-less (lit< tt)
+  pub two_less_fits : SFits w32 (e -ℤ pos 2)
+  two_less_fits = below 1026 _ two_less (lit< tt)
 
   pub second_fits : SFits w32 (falling2 e)
   second_fits = below 1049600 _ second (lit< tt)
 
-  pub third-fits : SFits w32 (falling3 e)
-  third-fits = below 1076889600 _ (rw (abs-mul (falling2 e) (e -ℤ pos 2)) (mul-le-mul second two-less)) (lit< tt)
+  pub third_fits : SFits w32 (falling3 e)
+  third_fits = below 1076889600 _ (rw (abs_mul (falling2 e) (e -ℤ pos 2)) (mul-le-mul second two_less)) (lit< tt)
 
   -- what is read back from the bits of each is the number
-  pub exp-back : to_z w32 (of_z w32 e) ≡ e
-  exp-back = to_z-of_z w32 e (below 1024 e small (lit< tt))
+  pub exp_back : to_z w32 (of_z w32 e) ≡ e
+  exp_back = to_z-of_z w32 e (below 1024 e small (lit< tt))
 
-  pub one-less-back : to_z w32 (of_z w32 (e -ℤ pos 1)) ≡ e -ℤ pos 1
-  one-less-back = to_z-of_z w32 (e -ℤ pos 1) one_less_fits
+  pub one_less_back : to_z w32 (of_z w32 (e -ℤ pos 1)) ≡ e -ℤ pos 1
+  one_less_back = to_z-of_z w32 (e -ℤ pos 1) one_less_fits
 
-  pub two-less-back : to_z w32 (of_z w32 (e -ℤ pos 2)) ≡ e -ℤ pos 2
-  two-less-back = to_z-of_z w32 (e -ℤ pos 2) two-less-fits
+  pub two_less_back : to_z w32 (of_z w32 (e -ℤ pos 2)) ≡ e -ℤ pos 2
+  two_less_back = to_z-of_z w32 (e -ℤ pos 2) two_less_fits
 
   pub second_back : to_z w32 (of_z w32 (falling2 e)) ≡ falling2 e
   second_back = to_z-of_z w32 (falling2 e) second_fits
 
   pub third_back : to_z w32 (of_z w32 (falling3 e)) ≡ falling3 e
-  third_back = to_z-of_z w32 (falling3 e) third-fits
+  third_back = to_z-of_z w32 (falling3 e) third_fits

@@ -10,10 +10,10 @@ factorial zero = 1
 factorial (suc n) = suc n * factorial n
 
 -- n!! = n * (n - 2) * .. down to 1 or 2
-abbrev pub doubleFactorial : ℕ → ℕ
-doubleFactorial zero = 1
-doubleFactorial (suc zero) = 1
-doubleFactorial (suc (suc n)) = suc (suc n) * doubleFactorial n
+abbrev pub double_factorial : ℕ → ℕ
+double_factorial zero = 1
+double_factorial (suc zero) = 1
+double_factorial (suc (suc n)) = suc (suc n) * double_factorial n
 
 -- z ^ power / denominator, subtracted where it is negative
 pub record Term : Type 0 where
@@ -22,23 +22,23 @@ pub record Term : Type 0 where
   pub denominator : ℕ
 
 -- term k of j_n
-abbrev pub termOf : ℕ → ℕ → Term
-termOf n k = record { negative = eqb (k % 2) 1; power = n + 2 * k; denominator = 2 ^ k * factorial k * doubleFactorial (2 * n + 2 * k + 1) }
+abbrev pub term_of : ℕ → ℕ → Term
+term_of n k = record { negative = eqb (k % 2) 1; power = n + 2 * k; denominator = 2 ^ k * factorial k * double_factorial (2 * n + 2 * k + 1) }
 
 module _ {R : Type 0} (A : Algebra R) where
   -- x to a power, multiplied from the left: one, x, x * x, (x * x) * x, ..
-  abbrev pub powerOf : R → ℕ → R
-  powerOf x zero = one_of A
-  powerOf x (suc zero) = x
-  powerOf x (suc (suc n)) = A.mul (powerOf x (suc n)) x
+  abbrev pub power_of : R → ℕ → R
+  power_of x zero = one_of A
+  power_of x (suc zero) = x
+  power_of x (suc (suc n)) = A.mul (power_of x (suc n)) x
 
   -- a term without its sign, at x
-  abbrev pub termAt : R → Term → R
-  termAt x t = A.divFloat (powerOf x t.power) (from_int (pos t.denominator))
+  abbrev pub term_at : R → Term → R
+  term_at x t = A.div_float (power_of x t.power) (from_int (pos t.denominator))
 
   -- j_n up to term k, from the left
-  abbrev pub beginningOf : ℕ → ℕ → R → R
-  beginningOf n zero x = termAt x (termOf n zero)
-  beginningOf n (suc k) x =
-      let t = termOf n (suc k) in
-      cond t.negative (A.sub (beginningOf n k x) (termAt x t)) (A.add (beginningOf n k x) (termAt x t))
+  abbrev pub beginning_of : ℕ → ℕ → R → R
+  beginning_of n zero x = term_at x (term_of n zero)
+  beginning_of n (suc k) x =
+      let t = term_of n (suc k) in
+      cond t.negative (A.sub (beginning_of n k x) (term_at x t)) (A.add (beginning_of n k x) (term_at x t))

@@ -2,8 +2,8 @@
 // part, the requests, and the plan that a record follows for a request.
 ghost use Rattle.std.specs.Prelude.{◌≡◌, ◌≤◌, nat_abs};
 ghost use Rattle.refusals.specs.Largest as largest;
-ghost use Rattle.derivatives.specs.Plan.{plan_of, planPowi, planPowf, isSmall, small};
-ghost use Rattle.derivatives.specs.Series.{recipSeries, powiSeries, powfSeries, sqrtSeries, cbrtSeries, expSeries, exp2Series, expM1Series, logarithmSeries, lnSeries, logSeries, log2Series, log10Series, ln1pSeries, sinSeries, cosSeries, asinSeries, acosSeries, atanSeries, sinhSeries, coshSeries, asinhSeries, acoshSeries, atanhSeries};
+ghost use Rattle.derivatives.specs.Plan.{plan_of, plan_powi, plan_powf, is_small, small};
+ghost use Rattle.derivatives.specs.Series.{recip_series, powi_series, powf_series, sqrt_series, cbrt_series, exp_series, exp2_series, exp_m1_series, logarithm_series, ln_series, log_series, log2_series, log10_series, ln1p_series, sin_series, cos_series, asin_series, acos_series, atan_series, sinh_series, cosh_series, asinh_series, acosh_series, atanh_series};
 
 const THIRD: f64 = 1.0 / 3.0;
 
@@ -85,7 +85,7 @@ pub enum Plan {
 
 impl Series {
     pub fn recip(re: f64) -> Series
-        ensures { result ≡ recipSeries re }
+        ensures { result ≡ recip_series re }
     {
         let rec = 1.0 / re;
         let f0 = rec;
@@ -98,7 +98,7 @@ impl Series {
     // Behind the plan, which refuses exponents whose products would not fit.
     fn powi(re: f64, exp: i32, pow3: f64) -> Series
         requires { nat_abs exp ≤ nat_abs largest.exponent }
-        ensures { result ≡ powiSeries re exp pow3 }
+        ensures { result ≡ powi_series re exp pow3 }
     {
         let f0 = pow3 * re * re * re;
         let f1 = pow3 * re * re * (exp as f64);
@@ -108,7 +108,7 @@ impl Series {
     }
 
     pub fn powf(re: f64, n: f64, pow3: f64) -> Series
-        ensures { result ≡ powfSeries re n pow3 }
+        ensures { result ≡ powf_series re n pow3 }
     {
         let n1 = n - 1.0;
         let n2 = n1 - 1.0;
@@ -120,7 +120,7 @@ impl Series {
     }
 
     pub fn sqrt(re: f64) -> Series
-        ensures { result ≡ sqrtSeries re }
+        ensures { result ≡ sqrt_series re }
     {
         let rec = 1.0 / re;
         let half = 0.5;
@@ -132,7 +132,7 @@ impl Series {
     }
 
     pub fn cbrt(re: f64, cbrt: f64) -> Series
-        ensures { result ≡ cbrtSeries re cbrt }
+        ensures { result ≡ cbrt_series re cbrt }
     {
         let rec = 1.0 / re;
         let f0 = cbrt;
@@ -143,7 +143,7 @@ impl Series {
     }
 
     pub fn exp(exp: f64) -> Series
-        ensures { result ≡ expSeries exp }
+        ensures { result ≡ exp_series exp }
     {
         Series {
             f0: exp,
@@ -154,7 +154,7 @@ impl Series {
     }
 
     pub fn exp2(exp2: f64) -> Series
-        ensures { result ≡ exp2Series exp2 }
+        ensures { result ≡ exp2_series exp2 }
     {
         let f0 = exp2;
         let f1 = f0 * LN_2;
@@ -164,7 +164,7 @@ impl Series {
     }
 
     pub fn exp_m1(exp_m1: f64, exp: f64) -> Series
-        ensures { result ≡ expM1Series exp_m1 exp }
+        ensures { result ≡ exp_m1_series exp_m1 exp }
     {
         Series {
             f0: exp_m1,
@@ -176,7 +176,7 @@ impl Series {
 
     // What the five logarithms share, from the reciprocal, the value and the first derivative.
     fn logarithm(rec: f64, f0: f64, f1: f64) -> Series
-        ensures { result ≡ logarithmSeries rec f0 f1 }
+        ensures { result ≡ logarithm_series rec f0 f1 }
     {
         let f2 = -f1 * rec;
         let f3 = -f2 * rec * 2.0;
@@ -184,42 +184,42 @@ impl Series {
     }
 
     pub fn ln(re: f64, ln: f64) -> Series
-        ensures { result ≡ lnSeries re ln }
+        ensures { result ≡ ln_series re ln }
     {
         let rec = 1.0 / re;
         Series::logarithm(rec, ln, rec)
     }
 
     pub fn log(re: f64, log: f64, ln_base: f64) -> Series
-        ensures { result ≡ logSeries re log ln_base }
+        ensures { result ≡ log_series re log ln_base }
     {
         let rec = 1.0 / re;
         Series::logarithm(rec, log, rec / ln_base)
     }
 
     pub fn log2(re: f64, log2: f64) -> Series
-        ensures { result ≡ log2Series re log2 }
+        ensures { result ≡ log2_series re log2 }
     {
         let rec = 1.0 / re;
         Series::logarithm(rec, log2, rec / LN_2)
     }
 
     pub fn log10(re: f64, log10: f64) -> Series
-        ensures { result ≡ log10Series re log10 }
+        ensures { result ≡ log10_series re log10 }
     {
         let rec = 1.0 / re;
         Series::logarithm(rec, log10, rec / LN_10)
     }
 
     pub fn ln_1p(re: f64, ln_1p: f64) -> Series
-        ensures { result ≡ ln1pSeries re ln_1p }
+        ensures { result ≡ ln1p_series re ln_1p }
     {
         let rec = 1.0 / (re + 1.0);
         Series::logarithm(rec, ln_1p, rec)
     }
 
     pub fn sin(sin: f64, cos: f64) -> Series
-        ensures { result ≡ sinSeries sin cos }
+        ensures { result ≡ sin_series sin cos }
     {
         Series {
             f0: sin,
@@ -230,7 +230,7 @@ impl Series {
     }
 
     pub fn cos(sin: f64, cos: f64) -> Series
-        ensures { result ≡ cosSeries sin cos }
+        ensures { result ≡ cos_series sin cos }
     {
         Series {
             f0: cos,
@@ -241,7 +241,7 @@ impl Series {
     }
 
     pub fn asin(re: f64, asin: f64) -> Series
-        ensures { result ≡ asinSeries re asin }
+        ensures { result ≡ asin_series re asin }
     {
         let rec = 1.0 / (1.0 - re * re);
         let f0 = asin;
@@ -252,7 +252,7 @@ impl Series {
     }
 
     pub fn acos(re: f64, acos: f64) -> Series
-        ensures { result ≡ acosSeries re acos }
+        ensures { result ≡ acos_series re acos }
     {
         let rec = 1.0 / (1.0 - re * re);
         let f0 = acos;
@@ -263,7 +263,7 @@ impl Series {
     }
 
     pub fn atan(re: f64, atan: f64) -> Series
-        ensures { result ≡ atanSeries re atan }
+        ensures { result ≡ atan_series re atan }
     {
         let rec = 1.0 / (1.0 + re * re);
         let f0 = atan;
@@ -275,7 +275,7 @@ impl Series {
     }
 
     pub fn sinh(sinh: f64, cosh: f64) -> Series
-        ensures { result ≡ sinhSeries sinh cosh }
+        ensures { result ≡ sinh_series sinh cosh }
     {
         Series {
             f0: sinh,
@@ -286,7 +286,7 @@ impl Series {
     }
 
     pub fn cosh(sinh: f64, cosh: f64) -> Series
-        ensures { result ≡ coshSeries sinh cosh }
+        ensures { result ≡ cosh_series sinh cosh }
     {
         Series {
             f0: cosh,
@@ -297,7 +297,7 @@ impl Series {
     }
 
     pub fn asinh(re: f64, asinh: f64) -> Series
-        ensures { result ≡ asinhSeries re asinh }
+        ensures { result ≡ asinh_series re asinh }
     {
         let rec = 1.0 / (1.0 + re * re);
         let f0 = asinh;
@@ -308,7 +308,7 @@ impl Series {
     }
 
     pub fn acosh(re: f64, acosh: f64) -> Series
-        ensures { result ≡ acoshSeries re acosh }
+        ensures { result ≡ acosh_series re acosh }
     {
         let rec = 1.0 / (re * re - 1.0);
         let f0 = acosh;
@@ -319,7 +319,7 @@ impl Series {
     }
 
     pub fn atanh(re: f64, atanh: f64) -> Series
-        ensures { result ≡ atanhSeries re atanh }
+        ensures { result ≡ atanh_series re atanh }
     {
         let rec = 1.0 / (1.0 - re * re);
         let f0 = atanh;
@@ -384,7 +384,7 @@ pub fn choose(re: f64, f: Function) -> Plan
 }
 
 fn plan_powi(re: f64, exp: i32, pow3: f64) -> Plan
-    ensures { result ≡ planPowi re exp pow3 }
+    ensures { result ≡ plan_powi re exp pow3 }
 {
     if exp < refusals::LEAST_EXPONENT {
         return Plan::Refused(refusals::EXPONENT_TOO_LARGE);
@@ -401,7 +401,7 @@ fn plan_powi(re: f64, exp: i32, pow3: f64) -> Plan
 }
 
 fn plan_powf(re: f64, n: f64, pow3: f64) -> Plan
-    ensures { result ≡ planPowf re n pow3 }
+    ensures { result ≡ plan_powf re n pow3 }
 {
     if n == 0.0 {
         return Plan::One;
@@ -417,7 +417,7 @@ fn plan_powf(re: f64, n: f64, pow3: f64) -> Plan
 
 // Whether |re| is below 2^-52, where the three sph_j are the beginnings of their series.
 pub fn is_small(re: f64) -> bool
-    ensures { result ≡ isSmall re }
+    ensures { result ≡ is_small re }
 {
     real::abs(re) < EPSILON
 }

@@ -4,24 +4,24 @@ use native.Mathlib.Omega.{arith}
 use lib.Dec.{lit<, lit≤}
 use Rattle.real.specs.Operations as float
 use Rattle.algebra.specs.Flat.{tabulate, Lawful, Agrees}
-use Rattle.algebra.proofs.Flat.{tabulate-at}
+use Rattle.algebra.proofs.Flat.{tabulate_at}
 use Rattle.algebra.proofs.Laws.{Laws}
-use Rattle.dual.specs.Rules.{dual, dualAlgebra, dualLayout}
-use Rattle.dual.proofs.RealParts.{dual-reals}
+use Rattle.dual.specs.Rules.{dual, dual_algebra, dual_layout}
+use Rattle.dual.proofs.RealParts.{dual_reals}
 
-pub dual-lawful : Lawful dualLayout
+pub dual_lawful : Lawful dual_layout
 unfolding tabulate
-dual-lawful = record {
+dual_lawful = record {
   positive = lit< tt;
   size = λ x. refl;
   reads = λ f g h. λ i. dual (h 0 (lit< tt) i) (h 1 (lit< tt) i);
   whole = λ x. refl;
-  again = λ f i h. tabulate-at f 2 0 i float.zero h ∙ ap f (omega arith);
+  again = λ f i h. tabulate_at f 2 0 i float.zero h ∙ ap f (omega arith);
 }
 
-pub dual-agrees : Agrees dualAlgebra dualLayout
-dual-agrees = record { first = λ f. refl; blank = refl }
+pub dual_agrees : Agrees dual_algebra dual_layout
+dual_agrees = record { first = λ f. refl; blank = refl }
 
 -- what the code over any record asks of `Dual`
-pub dual-laws : Laws dualAlgebra dualLayout
-dual-laws = record { lawful = dual-lawful; agrees = dual-agrees; real = dual-reals; narrow = lit≤ tt }
+pub dual_laws : Laws dual_algebra dual_layout
+dual_laws = record { lawful = dual_lawful; agrees = dual_agrees; real = dual_reals; narrow = lit≤ tt }

@@ -1,7 +1,7 @@
 -- The real parts of `Dual` come from real parts alone: each operation computes them so. Assumes nothing.
 use Rattle.algebra.specs.Algebra.{RealParts}
-use Rattle.dual.specs.Rules.{dualAlgebra, dualChain, dualMul, dualDiv, dualAdd, dualSub, dualNeg, dualMulFloat, dualDivFloat}
+use Rattle.dual.specs.Rules.{dual_algebra, dual_chain, dual_mul, dual_div, dual_add, dual_sub, dual_neg, dual_mul_float, dual_div_float}
 
-pub dual-reals : RealParts dualAlgebra
-unfolding dualChain dualMul dualDiv dualAdd dualSub dualNeg dualMulFloat dualDivFloat
-dual-reals = search
+pub dual_reals : RealParts dual_algebra
+unfolding dual_chain dual_mul dual_div dual_add dual_sub dual_neg dual_mul_float dual_div_float
+dual_reals = search

@@ -16,79 +16,79 @@ abbrev pub dual : Float → Float → Dual
 dual re eps = record { re = re; eps = eps }
 
 -- a real part alone
-abbrev pub dualFromRe : Float → Dual
-dualFromRe re = dual re zero
+abbrev pub dual_from_re : Float → Dual
+dual_from_re re = dual re zero
 
 -- the derivative part set to 1
-abbrev pub dualDerivative : Dual → Dual
-dualDerivative self = dual self.re one
+abbrev pub dual_derivative : Dual → Dual
+dual_derivative self = dual self.re one
 
 -- chain rule
-unfoldable pub dualChain : Dual → Float → Float → Dual
-dualChain self f0 f1 = dual f0 (self.eps ⊗ f1)
+unfoldable pub dual_chain : Dual → Float → Float → Dual
+dual_chain self f0 f1 = dual f0 (self.eps ⊗ f1)
 
 -- product rule
-unfoldable pub dualMul : Dual → Dual → Dual
-dualMul self other = dual (self.re ⊗ other.re) (self.eps ⊗ other.re ⊕ other.eps ⊗ self.re)
+unfoldable pub dual_mul : Dual → Dual → Dual
+dual_mul self other = dual (self.re ⊗ other.re) (self.eps ⊗ other.re ⊕ other.eps ⊗ self.re)
 
 -- quotient rule
-unfoldable pub dualDiv : Dual → Dual → Dual
-dualDiv self other =
+unfoldable pub dual_div : Dual → Dual → Dual
+dual_div self other =
     let inv = one ⊘ other.re in
     dual (self.re ⊗ inv) ((self.eps ⊗ other.re ⊖ other.eps ⊗ self.re) ⊗ inv ⊗ inv)
 
 -- part by part
-unfoldable pub dualAdd : Dual → Dual → Dual
-dualAdd self other = dual (self.re ⊕ other.re) (self.eps ⊕ other.eps)
+unfoldable pub dual_add : Dual → Dual → Dual
+dual_add self other = dual (self.re ⊕ other.re) (self.eps ⊕ other.eps)
 
-unfoldable pub dualSub : Dual → Dual → Dual
-dualSub self other = dual (self.re ⊖ other.re) (self.eps ⊖ other.eps)
+unfoldable pub dual_sub : Dual → Dual → Dual
+dual_sub self other = dual (self.re ⊖ other.re) (self.eps ⊖ other.eps)
 
-unfoldable pub dualNeg : Dual → Dual
-dualNeg self = dual (neg self.re) (neg self.eps)
+unfoldable pub dual_neg : Dual → Dual
+dual_neg self = dual (neg self.re) (neg self.eps)
 
 -- a plain float multiplies or divides each part
-unfoldable pub dualMulFloat : Dual → Float → Dual
-dualMulFloat self other = dual (self.re ⊗ other) (self.eps ⊗ other)
+unfoldable pub dual_mul_float : Dual → Float → Dual
+dual_mul_float self other = dual (self.re ⊗ other) (self.eps ⊗ other)
 
-unfoldable pub dualDivFloat : Dual → Float → Dual
-dualDivFloat self other = dual (self.re ⊘ other) (self.eps ⊘ other)
+unfoldable pub dual_div_float : Dual → Float → Dual
+dual_div_float self other = dual (self.re ⊘ other) (self.eps ⊘ other)
 
 -- the highest order of a derivative that the record carries: NDERIV
-abbrev pub dualNderiv : ℕ
-dualNderiv = 1
+abbrev pub dual_nderiv : ℕ
+dual_nderiv = 1
 
 -- `Dual` by its operations
-abbrev pub dualAlgebra : Algebra Dual
-dualAlgebra = record {
+abbrev pub dual_algebra : Algebra Dual
+dual_algebra = record {
   re = λ x. x.re;
-  fromRe = dualFromRe;
-  withRe = λ x re. dual re x.eps;
-  add = dualAdd;
-  sub = dualSub;
-  mul = dualMul;
-  div = dualDiv;
-  neg = dualNeg;
-  mulFloat = dualMulFloat;
-  divFloat = dualDivFloat;
-  chain = λ x f0 f1 f2 f3. dualChain x f0 f1;
+  from_re = dual_from_re;
+  with_re = λ x re. dual re x.eps;
+  add = dual_add;
+  sub = dual_sub;
+  mul = dual_mul;
+  div = dual_div;
+  neg = dual_neg;
+  mul_float = dual_mul_float;
+  div_float = dual_div_float;
+  chain = λ x f0 f1 f2 f3. dual_chain x f0 f1;
 }
 
 -- two floats a record: re, eps
-abbrev pub dualLayout : Layout Dual
-dualLayout = record {
+abbrev pub dual_layout : Layout Dual
+dual_layout = record {
   width = 2;
   parts = λ x. x.re ∷ x.eps ∷ [];
   make = λ part. dual (part 0) (part 1);
 }
 
 -- the records that flat floats hold
-abbrev pub dualRecords : List Float → List Dual
-dualRecords l = decode dualLayout l
+abbrev pub dual_records : List Float → List Dual
+dual_records l = decode dual_layout l
 
 -- a sine and a cosine
-abbrev pub dualSinCos : Dual → Dual → DualSinCos
-dualSinCos sin cos = record { sin = sin; cos = cos }
+abbrev pub dual_sin_cos : Dual → Dual → DualSinCos
+dual_sin_cos sin cos = record { sin = sin; cos = cos }
 
 -- document 01's reading of an answer: the record, or the number that it is refused by
 abbrev pub outcome : DualAnswer → Outcome Dual

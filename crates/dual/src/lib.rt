@@ -5,7 +5,7 @@ mod operations;
 mod records;
 
 ghost use Rattle.std.specs.Prelude.{◌≡◌};
-ghost use Rattle.dual.specs.Rules.{dual, dualFromRe, dualDerivative, dualChain, dualMul, dualDiv};
+ghost use Rattle.dual.specs.Rules.{dual, dual_from_re, dual_derivative, dual_chain, dual_mul, dual_div};
 
 pub use records::{product, read, sum, write};
 
@@ -48,14 +48,14 @@ impl Dual {
 
     // Create a new dual number from the real part.
     pub fn from_re(re: f64) -> Self
-        ensures { result ≡ dualFromRe re }
+        ensures { result ≡ dual_from_re re }
     {
         Self { re, eps: 0.0 }
     }
 
     // Set the derivative part to 1.
     pub fn derivative(mut self) -> Self
-        ensures { result ≡ dualDerivative self }
+        ensures { result ≡ dual_derivative self }
     {
         self.eps = 1.0;
         self
@@ -63,7 +63,7 @@ impl Dual {
 
     /* chain rule */
     fn chain_rule(self, f0: f64, f1: f64) -> Self
-        ensures { result ≡ dualChain self f0 f1 }
+        ensures { result ≡ dual_chain self f0 f1 }
     {
         Self {
             re: f0,
@@ -73,7 +73,7 @@ impl Dual {
 
     /* product rule */
     pub fn mul(self, other: Dual) -> Self
-        ensures { result ≡ dualMul self other }
+        ensures { result ≡ dual_mul self other }
     {
         Self {
             re: self.re * other.re,
@@ -83,7 +83,7 @@ impl Dual {
 
     /* quotient rule */
     pub fn div(self, other: Dual) -> Self
-        ensures { result ≡ dualDiv self other }
+        ensures { result ≡ dual_div self other }
     {
         let inv = 1.0 / other.re;
         Self {

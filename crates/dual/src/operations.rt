@@ -3,15 +3,15 @@ ghost use Rattle.std.specs.Prelude.{◌≡◌, not};
 ghost use Rattle.std.specs.Float.Ieee.{lt, le, eq};
 ghost use Rattle.real.specs.Operations.{zero, one};
 ghost use Rattle.real.specs.Sign.{sign_of};
-ghost use Rattle.algebra.specs.Algebra.{zero_of, one_of, addFloat, subFloat, magnitude};
-ghost use Rattle.derivatives.specs.Apply.{absSubOf, signumOf};
-ghost use Rattle.dual.specs.Rules.{dualAdd, dualSub, dualNeg, dualMulFloat, dualDivFloat, dualNderiv, dualAlgebra};
+ghost use Rattle.algebra.specs.Algebra.{zero_of, one_of, add_float, sub_float, magnitude};
+ghost use Rattle.derivatives.specs.Apply.{abs_sub_of, signum_of};
+ghost use Rattle.dual.specs.Rules.{dual_add, dual_sub, dual_neg, dual_mul_float, dual_div_float, dual_nderiv, dual_algebra};
 
 use crate::Dual;
 
 impl Dual {
     pub fn zero() -> Self
-        ensures { result ≡ zero_of dualAlgebra }
+        ensures { result ≡ zero_of dual_algebra }
     {
         Self::ZERO
     }
@@ -23,7 +23,7 @@ impl Dual {
     }
 
     pub fn one() -> Self
-        ensures { result ≡ one_of dualAlgebra }
+        ensures { result ≡ one_of dual_algebra }
     {
         Self::ONE
     }
@@ -35,13 +35,13 @@ impl Dual {
     }
 
     pub fn nderiv() -> usize
-        ensures { result ≡ dualNderiv }
+        ensures { result ≡ dual_nderiv }
     {
         Self::NDERIV
     }
 
     pub fn add(self, other: Dual) -> Self
-        ensures { result ≡ dualAdd self other }
+        ensures { result ≡ dual_add self other }
     {
         Self {
             re: self.re + other.re,
@@ -50,7 +50,7 @@ impl Dual {
     }
 
     pub fn sub(self, other: Dual) -> Self
-        ensures { result ≡ dualSub self other }
+        ensures { result ≡ dual_sub self other }
     {
         Self {
             re: self.re - other.re,
@@ -59,7 +59,7 @@ impl Dual {
     }
 
     pub fn neg(self) -> Self
-        ensures { result ≡ dualNeg self }
+        ensures { result ≡ dual_neg self }
     {
         Self {
             re: -self.re,
@@ -68,7 +68,7 @@ impl Dual {
     }
 
     pub fn mul_float(self, other: f64) -> Self
-        ensures { result ≡ dualMulFloat self other }
+        ensures { result ≡ dual_mul_float self other }
     {
         Self {
             re: self.re * other,
@@ -77,7 +77,7 @@ impl Dual {
     }
 
     pub fn div_float(self, other: f64) -> Self
-        ensures { result ≡ dualDivFloat self other }
+        ensures { result ≡ dual_div_float self other }
     {
         Self {
             re: self.re / other,
@@ -86,14 +86,14 @@ impl Dual {
     }
 
     pub fn add_float(mut self, other: f64) -> Self
-        ensures { result ≡ addFloat dualAlgebra self other }
+        ensures { result ≡ add_float dual_algebra self other }
     {
         self.re = self.re + other;
         self
     }
 
     pub fn sub_float(mut self, other: f64) -> Self
-        ensures { result ≡ subFloat dualAlgebra self other }
+        ensures { result ≡ sub_float dual_algebra self other }
     {
         self.re = self.re - other;
         self
@@ -101,7 +101,7 @@ impl Dual {
 
     // x where the sign bit of re is clear, else -x.
     pub fn abs(self) -> Self
-        ensures { result ≡ magnitude dualAlgebra self }
+        ensures { result ≡ magnitude dual_algebra self }
     {
         if real::is_negative(self.re) {
             self.neg()
@@ -111,7 +111,7 @@ impl Dual {
     }
 
     pub fn abs_sub(self, other: Dual) -> Self
-        ensures { result ≡ absSubOf dualAlgebra self other }
+        ensures { result ≡ abs_sub_of dual_algebra self other }
     {
         if self.re > other.re {
             self.sub(other)
@@ -121,7 +121,7 @@ impl Dual {
     }
 
     pub fn signum(self) -> Self
-        ensures { result ≡ signumOf dualAlgebra self }
+        ensures { result ≡ signum_of dual_algebra self }
     {
         if real::is_negative(self.re) {
             if self.re == 0.0 {

@@ -1,15 +1,15 @@
 // `Dual` records in flat floats, two floats a record, the real part first: one reader and one writer, and the sum and the product of a run.
 ghost use Rattle.std.specs.Prelude.{◌≡◌, ◌+◌, ◌*◌, ◌<◌, length, get_or, set};
 ghost use Rattle.algebra.specs.Algebra.{zero_of};
-ghost use Rattle.algebra.specs.Flat.{sum_of, productOf};
-ghost use Rattle.dual.specs.Rules.{dualAlgebra, dualLayout, dualRecords, outcome};
+ghost use Rattle.algebra.specs.Flat.{sum_of, product_of};
+ghost use Rattle.dual.specs.Rules.{dual_algebra, dual_layout, dual_records, outcome};
 
 use crate::{Dual, DualAnswer};
 
 // Record number `at`. Inner: for the crates above, which show its `requires`.
 pub fn read(floats: &[f64], at: usize) -> Dual
     requires { at * 2 + 1 < length floats.now }
-    ensures { result ≡ get_or (dualRecords floats.now) at (zero_of dualAlgebra) }
+    ensures { result ≡ get_or (dual_records floats.now) at (zero_of dual_algebra) }
 {
     let first = at * 2;
     Dual {
@@ -21,7 +21,7 @@ pub fn read(floats: &[f64], at: usize) -> Dual
 // Record number `at` is x. Inner: for the crates above, which show its `requires`.
 pub fn write(floats: &mut [f64], at: usize, x: Dual)
     requires { at * 2 + 1 < length floats.old }
-    ensures { dualRecords floats.new ≡ set (dualRecords floats.old) at x }
+    ensures { dual_records floats.new ≡ set (dual_records floats.old) at x }
 {
     let first = at * 2;
     floats[first] = x.re;
@@ -30,7 +30,7 @@ pub fn write(floats: &mut [f64], at: usize, x: Dual)
 
 // From zero, left to right. A length that is not whole records is refused.
 pub fn sum(floats: &[f64]) -> DualAnswer
-    ensures { outcome result ≡ sum_of dualLayout dualAlgebra floats.now }
+    ensures { outcome result ≡ sum_of dual_layout dual_algebra floats.now }
 {
     if floats.len() % 2 != 0 {
         return DualAnswer::Refused(refusals::WRONG_LENGTH);
@@ -47,7 +47,7 @@ pub fn sum(floats: &[f64]) -> DualAnswer
 
 // From one, left to right. A length that is not whole records is refused.
 pub fn product(floats: &[f64]) -> DualAnswer
-    ensures { outcome result ≡ productOf dualLayout dualAlgebra floats.now }
+    ensures { outcome result ≡ product_of dual_layout dual_algebra floats.now }
 {
     if floats.len() % 2 != 0 {
         return DualAnswer::Refused(refusals::WRONG_LENGTH);

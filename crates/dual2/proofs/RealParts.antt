@@ -1,7 +1,7 @@
 -- The real parts of `Dual2` come from real parts alone: each operation computes them so. Assumes nothing.
 use Rattle.algebra.specs.Algebra.{RealParts}
-use Rattle.dual2.specs.Rules.{dual2Algebra, dual2Chain, dual2Mul, dual2Div, dual2Add, dual2Sub, dual2Neg, dual2MulFloat, dual2DivFloat}
+use Rattle.dual2.specs.Rules.{dual2_algebra, dual2_chain, dual2_mul, dual2_div, dual2_add, dual2_sub, dual2_neg, dual2_mul_float, dual2_div_float}
 
-pub dual2-reals : RealParts dual2Algebra
-unfolding dual2Chain dual2Mul dual2Div dual2Add dual2Sub dual2Neg dual2MulFloat dual2DivFloat
-dual2-reals = search
+pub dual2_reals : RealParts dual2_algebra
+unfolding dual2_chain dual2_mul dual2_div dual2_add dual2_sub dual2_neg dual2_mul_float dual2_div_float
+dual2_reals = search

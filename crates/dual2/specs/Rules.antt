@@ -16,28 +16,28 @@ abbrev pub dual2 : Float → Float → Float → Dual2
 dual2 re v1 v2 = record { re = re; v1 = v1; v2 = v2 }
 
 -- the derivative part set to 1
-abbrev pub dual2Derivative : Dual2 → Dual2
-dual2Derivative self = dual2 self.re one self.v2
+abbrev pub dual2_derivative : Dual2 → Dual2
+dual2_derivative self = dual2 self.re one self.v2
 
 -- a real part alone
-abbrev pub dual2FromRe : Float → Dual2
-dual2FromRe re = dual2 re zero zero
+abbrev pub dual2_from_re : Float → Dual2
+dual2_from_re re = dual2 re zero zero
 
 -- chain rule
-unfoldable pub dual2Chain : Dual2 → Float → Float → Float → Dual2
-dual2Chain self f0 f1 f2 = dual2 f0 (self.v1 ⊗ f1) (self.v2 ⊗ f1 ⊕ self.v1 ⊗ self.v1 ⊗ f2)
+unfoldable pub dual2_chain : Dual2 → Float → Float → Float → Dual2
+dual2_chain self f0 f1 f2 = dual2 f0 (self.v1 ⊗ f1) (self.v2 ⊗ f1 ⊕ self.v1 ⊗ self.v1 ⊗ f2)
 
 -- product rule
-unfoldable pub dual2Mul : Dual2 → Dual2 → Dual2
-dual2Mul self other =
+unfoldable pub dual2_mul : Dual2 → Dual2 → Dual2
+dual2_mul self other =
     dual2
     (self.re ⊗ other.re)
     (other.v1 ⊗ self.re ⊕ self.v1 ⊗ other.re)
     (other.v2 ⊗ self.re ⊕ self.v1 ⊗ other.v1 ⊕ other.v1 ⊗ self.v1 ⊕ self.v2 ⊗ other.re)
 
 -- quotient rule
-unfoldable pub dual2Div : Dual2 → Dual2 → Dual2
-dual2Div self other =
+unfoldable pub dual2_div : Dual2 → Dual2 → Dual2
+dual2_div self other =
     let inv = one ⊘ other.re in
     let inv2 = inv ⊗ inv in
     dual2
@@ -48,57 +48,57 @@ dual2Div self other =
     ⊕ other.v1 ⊗ other.v1 ⊗ ((one ⊕ one) ⊗ self.re ⊗ inv2 ⊗ inv))
 
 -- part by part
-unfoldable pub dual2Add : Dual2 → Dual2 → Dual2
-dual2Add self other = dual2 (self.re ⊕ other.re) (self.v1 ⊕ other.v1) (self.v2 ⊕ other.v2)
+unfoldable pub dual2_add : Dual2 → Dual2 → Dual2
+dual2_add self other = dual2 (self.re ⊕ other.re) (self.v1 ⊕ other.v1) (self.v2 ⊕ other.v2)
 
-unfoldable pub dual2Sub : Dual2 → Dual2 → Dual2
-dual2Sub self other = dual2 (self.re ⊖ other.re) (self.v1 ⊖ other.v1) (self.v2 ⊖ other.v2)
+unfoldable pub dual2_sub : Dual2 → Dual2 → Dual2
+dual2_sub self other = dual2 (self.re ⊖ other.re) (self.v1 ⊖ other.v1) (self.v2 ⊖ other.v2)
 
-unfoldable pub dual2Neg : Dual2 → Dual2
-dual2Neg self = dual2 (neg self.re) (neg self.v1) (neg self.v2)
+unfoldable pub dual2_neg : Dual2 → Dual2
+dual2_neg self = dual2 (neg self.re) (neg self.v1) (neg self.v2)
 
 -- a plain float multiplies or divides each part
-unfoldable pub dual2MulFloat : Dual2 → Float → Dual2
-dual2MulFloat self other = dual2 (self.re ⊗ other) (self.v1 ⊗ other) (self.v2 ⊗ other)
+unfoldable pub dual2_mul_float : Dual2 → Float → Dual2
+dual2_mul_float self other = dual2 (self.re ⊗ other) (self.v1 ⊗ other) (self.v2 ⊗ other)
 
-unfoldable pub dual2DivFloat : Dual2 → Float → Dual2
-dual2DivFloat self other = dual2 (self.re ⊘ other) (self.v1 ⊘ other) (self.v2 ⊘ other)
+unfoldable pub dual2_div_float : Dual2 → Float → Dual2
+dual2_div_float self other = dual2 (self.re ⊘ other) (self.v1 ⊘ other) (self.v2 ⊘ other)
 
 -- the highest order of a derivative that the record carries: NDERIV
-abbrev pub dual2Nderiv : ℕ
-dual2Nderiv = 2
+abbrev pub dual2_nderiv : ℕ
+dual2_nderiv = 2
 
 -- `Dual2` by its operations
-abbrev pub dual2Algebra : Algebra Dual2
-dual2Algebra = record {
+abbrev pub dual2_algebra : Algebra Dual2
+dual2_algebra = record {
   re = λ x. x.re;
-  fromRe = dual2FromRe;
-  withRe = λ x re. dual2 re x.v1 x.v2;
-  add = dual2Add;
-  sub = dual2Sub;
-  mul = dual2Mul;
-  div = dual2Div;
-  neg = dual2Neg;
-  mulFloat = dual2MulFloat;
-  divFloat = dual2DivFloat;
-  chain = λ x f0 f1 f2 f3. dual2Chain x f0 f1 f2;
+  from_re = dual2_from_re;
+  with_re = λ x re. dual2 re x.v1 x.v2;
+  add = dual2_add;
+  sub = dual2_sub;
+  mul = dual2_mul;
+  div = dual2_div;
+  neg = dual2_neg;
+  mul_float = dual2_mul_float;
+  div_float = dual2_div_float;
+  chain = λ x f0 f1 f2 f3. dual2_chain x f0 f1 f2;
 }
 
 -- three floats a record: re, v1, v2
-abbrev pub dual2Layout : Layout Dual2
-dual2Layout = record {
+abbrev pub dual2_layout : Layout Dual2
+dual2_layout = record {
   width = 3;
   parts = λ x. x.re ∷ x.v1 ∷ x.v2 ∷ [];
   make = λ part. dual2 (part 0) (part 1) (part 2);
 }
 
 -- the records that flat floats hold
-abbrev pub dual2Records : List Float → List Dual2
-dual2Records l = decode dual2Layout l
+abbrev pub dual2_records : List Float → List Dual2
+dual2_records l = decode dual2_layout l
 
 -- a sine and a cosine
-abbrev pub dual2SinCos : Dual2 → Dual2 → Dual2SinCos
-dual2SinCos sin cos = record { sin = sin; cos = cos }
+abbrev pub dual2_sin_cos : Dual2 → Dual2 → Dual2SinCos
+dual2_sin_cos sin cos = record { sin = sin; cos = cos }
 
 -- document 01's reading of an answer: the record, or the number that it is refused by
 abbrev pub outcome : Dual2Answer → Outcome Dual2

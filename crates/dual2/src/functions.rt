@@ -1,7 +1,7 @@
 // The functions of impl_derivatives.rs, each by its series or its plan; `mul_add` and `powd` are lib.rs's.
 ghost use Rattle.std.specs.Prelude.{◌≡◌};
-ghost use Rattle.derivatives.specs.Apply.{chainBy, smallJ0, smallJ2, besselJ1, besselJ2, runPlan, applyOf, recipOf, sqrtOf, sinOf, cosOf, atan2Of, mulAddOf, powdOf};
-ghost use Rattle.dual2.specs.Rules.{dual2MulFloat, dual2Nderiv, dual2Algebra, dual2SinCos, outcome};
+ghost use Rattle.derivatives.specs.Apply.{chain_by, small_j0, small_j2, bessel_j1, bessel_j2, run_plan, apply_of, recip_of, sqrt_of, sin_of, cos_of, atan2_of, mul_add_of, powd_of};
+ghost use Rattle.dual2.specs.Rules.{dual2_mul_float, dual2_nderiv, dual2_algebra, dual2_sin_cos, outcome};
 
 use crate::{Dual2, Dual2Answer, Dual2SinCos};
 use derivatives::{Function, Plan, Series};
@@ -9,38 +9,38 @@ use derivatives::{Function, Plan, Series};
 impl Dual2 {
     // The chain rule with as many derivatives of a series as the record carries.
     fn chain(self, s: Series) -> Self
-        ensures { result ≡ chainBy dual2Algebra self s }
+        ensures { result ≡ chain_by dual2_algebra self s }
     {
         self.chain_rule(s.f0, s.f1, s.f2)
     }
 
     pub fn scale(self, factor: f64) -> Self
-        ensures { result ≡ dual2MulFloat self factor }
+        ensures { result ≡ dual2_mul_float self factor }
     {
         self.mul_float(factor)
     }
 
     pub fn recip(self) -> Self
-        ensures { result ≡ recipOf dual2Algebra self }
+        ensures { result ≡ recip_of dual2_algebra self }
     {
         self.chain(Series::recip(self.re))
     }
 
     pub fn inv(self) -> Self
-        ensures { result ≡ recipOf dual2Algebra self }
+        ensures { result ≡ recip_of dual2_algebra self }
     {
         self.recip()
     }
 
     pub fn sqrt(self) -> Self
-        ensures { result ≡ sqrtOf dual2Algebra self }
+        ensures { result ≡ sqrt_of dual2_algebra self }
     {
         self.chain(Series::sqrt(self.re))
     }
 
     // `sin` and `cos` are the sine and the cosine of re.
     pub fn sin_cos(self, sin: f64, cos: f64) -> Dual2SinCos
-        ensures { result ≡ dual2SinCos (sinOf dual2Algebra self sin cos) (cosOf dual2Algebra self sin cos) }
+        ensures { result ≡ dual2_sin_cos (sin_of dual2_algebra self sin cos) (cos_of dual2_algebra self sin cos) }
     {
         let s = self.chain(Series::sin(sin, cos));
         let c = self.chain(Series::cos(sin, cos));
@@ -49,7 +49,7 @@ impl Dual2 {
 
     // `atan` is the arctangent of the quotient's real part, `quadrant` the four-quadrant value.
     pub fn atan2(self, other: Dual2, atan: f64, quadrant: f64) -> Self
-        ensures { result ≡ atan2Of dual2Algebra self other atan quadrant }
+        ensures { result ≡ atan2_of dual2_algebra self other atan quadrant }
     {
         let q = self.div(other);
         let mut res = q.chain(Series::atan(q.re, atan));
@@ -58,14 +58,14 @@ impl Dual2 {
     }
 
     pub fn mul_add(self, a: Dual2, b: Dual2) -> Self
-        ensures { result ≡ mulAddOf dual2Algebra self a b }
+        ensures { result ≡ mul_add_of dual2_algebra self a b }
     {
         self.mul(a).add(b)
     }
 
     // Power with dual exponent: `ln` is the logarithm of re, `exp` the exponential of the product's real part.
     pub fn powd(self, exponent: Dual2, ln: f64, exp: f64) -> Self
-        ensures { result ≡ powdOf dual2Algebra self exponent ln exp }
+        ensures { result ≡ powd_of dual2_algebra self exponent ln exp }
     {
         self.chain(Series::ln(self.re, ln))
             .mul(exponent)
@@ -74,13 +74,13 @@ impl Dual2 {
 
     // Any function of impl_derivatives.rs, with the outside floats that it needs; sph_j1_series is for records with third derivatives.
     pub fn apply(self, f: Function) -> Dual2Answer
-        ensures { outcome result ≡ applyOf dual2Algebra dual2Nderiv self f }
+        ensures { outcome result ≡ apply_of dual2_algebra dual2_nderiv self f }
     {
         self.run(derivatives::choose(self.re, f))
     }
 
     fn run(self, p: Plan) -> Dual2Answer
-        ensures { outcome result ≡ runPlan dual2Algebra dual2Nderiv self p }
+        ensures { outcome result ≡ run_plan dual2_algebra dual2_nderiv self p }
     {
         match p {
             Plan::Refused(n) => Dual2Answer::Refused(n),
@@ -106,25 +106,25 @@ impl Dual2 {
     }
 
     fn small_j0(self) -> Self
-        ensures { result ≡ smallJ0 dual2Algebra self }
+        ensures { result ≡ small_j0 dual2_algebra self }
     {
         Self::ONE.sub(self.mul(self).div_float(6.0))
     }
 
     fn small_j2(self) -> Self
-        ensures { result ≡ smallJ2 dual2Algebra self }
+        ensures { result ≡ small_j2 dual2_algebra self }
     {
         self.mul(self).div_float(15.0)
     }
 
     fn bessel_j1(self, s: Dual2, c: Dual2) -> Self
-        ensures { result ≡ besselJ1 dual2Algebra self s c }
+        ensures { result ≡ bessel_j1 dual2_algebra self s c }
     {
         s.sub(self.mul(c)).div(self.mul(self))
     }
 
     fn bessel_j2(self, s: Dual2, c: Dual2) -> Self
-        ensures { result ≡ besselJ2 dual2Algebra self s c }
+        ensures { result ≡ bessel_j2 dual2_algebra self s c }
     {
         let s2 = self.mul(self);
         s.sub(self.mul(c))

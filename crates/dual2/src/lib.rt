@@ -5,7 +5,7 @@ mod operations;
 mod records;
 
 ghost use Rattle.std.specs.Prelude.{◌≡◌};
-ghost use Rattle.dual2.specs.Rules.{dual2, dual2Derivative, dual2FromRe, dual2Chain, dual2Mul, dual2Div};
+ghost use Rattle.dual2.specs.Rules.{dual2, dual2_derivative, dual2_from_re, dual2_chain, dual2_mul, dual2_div};
 
 pub use records::{product, read, sum, write};
 
@@ -58,7 +58,7 @@ impl Dual2 {
 
     // Set the derivative part to 1.
     pub fn derivative(mut self) -> Self
-        ensures { result ≡ dual2Derivative self }
+        ensures { result ≡ dual2_derivative self }
     {
         self.v1 = 1.0;
         self
@@ -66,7 +66,7 @@ impl Dual2 {
 
     // Create a new second order dual number from the real part.
     pub fn from_re(re: f64) -> Self
-        ensures { result ≡ dual2FromRe re }
+        ensures { result ≡ dual2_from_re re }
     {
         Self {
             re,
@@ -77,7 +77,7 @@ impl Dual2 {
 
     /* chain rule */
     fn chain_rule(self, f0: f64, f1: f64, f2: f64) -> Self
-        ensures { result ≡ dual2Chain self f0 f1 f2 }
+        ensures { result ≡ dual2_chain self f0 f1 f2 }
     {
         Self {
             re: f0,
@@ -88,7 +88,7 @@ impl Dual2 {
 
     /* product rule */
     pub fn mul(self, other: Dual2) -> Self
-        ensures { result ≡ dual2Mul self other }
+        ensures { result ≡ dual2_mul self other }
     {
         Self {
             re: self.re * other.re,
@@ -99,7 +99,7 @@ impl Dual2 {
 
     /* quotient rule */
     pub fn div(self, other: Dual2) -> Self
-        ensures { result ≡ dual2Div self other }
+        ensures { result ≡ dual2_div self other }
     {
         let inv = 1.0 / other.re;
         let inv2 = inv * inv;

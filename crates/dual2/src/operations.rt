@@ -3,15 +3,15 @@ ghost use Rattle.std.specs.Prelude.{◌≡◌, not};
 ghost use Rattle.std.specs.Float.Ieee.{lt, le, eq};
 ghost use Rattle.real.specs.Operations.{zero, one};
 ghost use Rattle.real.specs.Sign.{sign_of};
-ghost use Rattle.algebra.specs.Algebra.{zero_of, one_of, addFloat, subFloat, magnitude};
-ghost use Rattle.derivatives.specs.Apply.{absSubOf, signumOf};
-ghost use Rattle.dual2.specs.Rules.{dual2Add, dual2Sub, dual2Neg, dual2MulFloat, dual2DivFloat, dual2Nderiv, dual2Algebra};
+ghost use Rattle.algebra.specs.Algebra.{zero_of, one_of, add_float, sub_float, magnitude};
+ghost use Rattle.derivatives.specs.Apply.{abs_sub_of, signum_of};
+ghost use Rattle.dual2.specs.Rules.{dual2_add, dual2_sub, dual2_neg, dual2_mul_float, dual2_div_float, dual2_nderiv, dual2_algebra};
 
 use crate::Dual2;
 
 impl Dual2 {
     pub fn zero() -> Self
-        ensures { result ≡ zero_of dual2Algebra }
+        ensures { result ≡ zero_of dual2_algebra }
     {
         Self::ZERO
     }
@@ -23,7 +23,7 @@ impl Dual2 {
     }
 
     pub fn one() -> Self
-        ensures { result ≡ one_of dual2Algebra }
+        ensures { result ≡ one_of dual2_algebra }
     {
         Self::ONE
     }
@@ -35,13 +35,13 @@ impl Dual2 {
     }
 
     pub fn nderiv() -> usize
-        ensures { result ≡ dual2Nderiv }
+        ensures { result ≡ dual2_nderiv }
     {
         Self::NDERIV
     }
 
     pub fn add(self, other: Dual2) -> Self
-        ensures { result ≡ dual2Add self other }
+        ensures { result ≡ dual2_add self other }
     {
         Self {
             re: self.re + other.re,
@@ -51,7 +51,7 @@ impl Dual2 {
     }
 
     pub fn sub(self, other: Dual2) -> Self
-        ensures { result ≡ dual2Sub self other }
+        ensures { result ≡ dual2_sub self other }
     {
         Self {
             re: self.re - other.re,
@@ -61,7 +61,7 @@ impl Dual2 {
     }
 
     pub fn neg(self) -> Self
-        ensures { result ≡ dual2Neg self }
+        ensures { result ≡ dual2_neg self }
     {
         Self {
             re: -self.re,
@@ -71,7 +71,7 @@ impl Dual2 {
     }
 
     pub fn mul_float(self, other: f64) -> Self
-        ensures { result ≡ dual2MulFloat self other }
+        ensures { result ≡ dual2_mul_float self other }
     {
         Self {
             re: self.re * other,
@@ -81,7 +81,7 @@ impl Dual2 {
     }
 
     pub fn div_float(self, other: f64) -> Self
-        ensures { result ≡ dual2DivFloat self other }
+        ensures { result ≡ dual2_div_float self other }
     {
         Self {
             re: self.re / other,
@@ -91,14 +91,14 @@ impl Dual2 {
     }
 
     pub fn add_float(mut self, other: f64) -> Self
-        ensures { result ≡ addFloat dual2Algebra self other }
+        ensures { result ≡ add_float dual2_algebra self other }
     {
         self.re = self.re + other;
         self
     }
 
     pub fn sub_float(mut self, other: f64) -> Self
-        ensures { result ≡ subFloat dual2Algebra self other }
+        ensures { result ≡ sub_float dual2_algebra self other }
     {
         self.re = self.re - other;
         self
@@ -106,7 +106,7 @@ impl Dual2 {
 
     // x where the sign bit of re is clear, else -x.
     pub fn abs(self) -> Self
-        ensures { result ≡ magnitude dual2Algebra self }
+        ensures { result ≡ magnitude dual2_algebra self }
     {
         if real::is_negative(self.re) {
             self.neg()
@@ -116,7 +116,7 @@ impl Dual2 {
     }
 
     pub fn abs_sub(self, other: Dual2) -> Self
-        ensures { result ≡ absSubOf dual2Algebra self other }
+        ensures { result ≡ abs_sub_of dual2_algebra self other }
     {
         if self.re > other.re {
             self.sub(other)
@@ -126,7 +126,7 @@ impl Dual2 {
     }
 
     pub fn signum(self) -> Self
-        ensures { result ≡ signumOf dual2Algebra self }
+        ensures { result ≡ signum_of dual2_algebra self }
     {
         if real::is_negative(self.re) {
             if self.re == 0.0 {

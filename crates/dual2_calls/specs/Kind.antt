@@ -3,18 +3,18 @@ use Rattle.std.specs.Prelude.{ℕ, List, [], ◌∷◌}
 use Rattle.refusals.specs.Number as refusal
 use Rattle.algebra.specs.Outcome.{Outcome, value, refused}
 use Rattle.dual2.specs.declared.Dual2.{Dual2}
-use Rattle.dual2.specs.Rules.{dual2Nderiv, dual2Algebra, dual2Layout, dual2Derivative}
+use Rattle.dual2.specs.Rules.{dual2_nderiv, dual2_algebra, dual2_layout, dual2_derivative}
 use Rattle.calls.specs.Table.{find}
 use Rattle.calls.specs.Called.{Kind}
 
 -- `derivative` is function 05
-abbrev pub dual2DerivativeTable : Dual2 → List (ℕ × Outcome Dual2)
-dual2DerivativeTable x = (0x05, value (dual2Derivative x)) ∷ []
+abbrev pub dual2_derivative_table : Dual2 → List (ℕ × Outcome Dual2)
+dual2_derivative_table x = (0x05, value (dual2_derivative x)) ∷ []
 
 -- no other number is one of them
-abbrev pub dual2Derivatives : ℕ → Dual2 → Outcome Dual2
-dual2Derivatives function x = find function (dual2DerivativeTable x) (refused refusal.wrongLength)
+abbrev pub dual2_derivatives : ℕ → Dual2 → Outcome Dual2
+dual2_derivatives function x = find function (dual2_derivative_table x) (refused refusal.wrong_length)
 
 -- what calls use of the record
-abbrev pub dual2Kind : Kind Dual2
-dual2Kind = record { algebra = dual2Algebra; layout = dual2Layout; nderiv = dual2Nderiv; derivative = dual2Derivatives }
+abbrev pub dual2_kind : Kind Dual2
+dual2_kind = record { algebra = dual2_algebra; layout = dual2_layout; nderiv = dual2_nderiv; derivative = dual2_derivatives }

@@ -1,10 +1,10 @@
 // Calls over `Dual2`: three words a record, re, v1 and v2.
 ghost use Rattle.std.specs.Prelude.{◌≡◌, ◌++◌, ◌+◌, length};
-ghost use Rattle.algebra.specs.Outcome.{mapOutcome};
-ghost use Rattle.dual2.specs.Rules.{dual2Layout, outcome};
+ghost use Rattle.algebra.specs.Outcome.{map_outcome};
+ghost use Rattle.dual2.specs.Rules.{dual2_layout, outcome};
 ghost use Rattle.floats.specs.Words.{words_of};
-ghost use Rattle.calls.specs.Called.{Sized, unaryOf, binaryOf, byFloatOf, operateOf, answer_of, leaves, calledOf, operatedOf, joinedLeft, summedOf, multipliedOf};
-ghost use Rattle.dual2_calls.specs.Kind.{dual2Kind, dual2Derivatives};
+ghost use Rattle.calls.specs.Called.{Sized, unary_of, binary_of, by_float_of, operate_of, answer_of, leaves, called_of, operated_of, joined_left, summed_of, multiplied_of};
+ghost use Rattle.dual2_calls.specs.Kind.{dual2_kind, dual2_derivatives};
 
 use calls::{Binary, ByFloat, Call, Operation, Unary, predicates, table};
 use dual2::{Dual2, Dual2Answer, Dual2SinCos};
@@ -14,7 +14,7 @@ const WIDTH: usize = 3;
 
 // `derivative` and its kin by function number; no other number is one of them.
 fn derivative(function: u32, x: Dual2) -> Dual2Answer
-    ensures { outcome result ≡ dual2Derivatives function x }
+    ensures { outcome result ≡ dual2_derivatives function x }
 {
     match function {
         0x05 => Dual2Answer::Value(x.derivative()),
@@ -23,7 +23,7 @@ fn derivative(function: u32, x: Dual2) -> Dual2Answer
 }
 
 fn unary(op: Unary, x: Dual2) -> Dual2
-    ensures { result ≡ unaryOf dual2Kind op x }
+    ensures { result ≡ unary_of dual2_kind op x }
 {
     match op {
         Unary::Neg => x.neg(),
@@ -33,7 +33,7 @@ fn unary(op: Unary, x: Dual2) -> Dual2
 }
 
 fn binary(op: Binary, x: Dual2, y: Dual2) -> Dual2
-    ensures { result ≡ binaryOf dual2Kind op x y }
+    ensures { result ≡ binary_of dual2_kind op x y }
 {
     match op {
         Binary::Add => x.add(y),
@@ -45,7 +45,7 @@ fn binary(op: Binary, x: Dual2, y: Dual2) -> Dual2
 }
 
 fn by_float(op: ByFloat, x: Dual2, f: f64) -> Dual2
-    ensures { result ≡ byFloatOf dual2Kind op x f }
+    ensures { result ≡ by_float_of dual2_kind op x f }
 {
     match op {
         ByFloat::Mul => x.mul_float(f),
@@ -57,7 +57,7 @@ fn by_float(op: ByFloat, x: Dual2, f: f64) -> Dual2
 
 // What gives one record.
 fn operate(op: Operation, x: Dual2, y: Dual2, z: Dual2) -> Dual2Answer
-    ensures { outcome result ≡ operateOf dual2Kind op x y z }
+    ensures { outcome result ≡ operate_of dual2_kind op x y z }
 {
     match op {
         Operation::FromRe(re) => Dual2Answer::Value(Dual2::from_re(re)),
@@ -77,8 +77,8 @@ fn operate(op: Operation, x: Dual2, y: Dual2, z: Dual2) -> Dual2Answer
 
 // A record's words to out, or its refusal.
 fn leave(answer: Dual2Answer, out: &mut [u64]) -> u32
-    requires { length out.old ≡ dual2Layout.width }
-    ensures { (result, out.new) ≡ leaves (mapOutcome words_of (mapOutcome dual2Layout.parts (outcome answer))) out.old }
+    requires { length out.old ≡ dual2_layout.width }
+    ensures { (result, out.new) ≡ leaves (map_outcome words_of (map_outcome dual2_layout.parts (outcome answer))) out.old }
 {
     match answer {
         Dual2Answer::Value(x) => {
@@ -93,8 +93,8 @@ fn leave(answer: Dual2Answer, out: &mut [u64]) -> u32
 
 // The words of two records to out.
 fn leave_both(answer: Dual2SinCos, out: &mut [u64])
-    requires { length out.old ≡ dual2Layout.width + dual2Layout.width }
-    ensures { out.new ≡ words_of (dual2Layout.parts answer.sin ++ dual2Layout.parts answer.cos) }
+    requires { length out.old ≡ dual2_layout.width + dual2_layout.width }
+    ensures { out.new ≡ words_of (dual2_layout.parts answer.sin ++ dual2_layout.parts answer.cos) }
 {
     let s = answer.sin;
     let c = answer.cos;
@@ -106,8 +106,8 @@ fn leave_both(answer: Dual2SinCos, out: &mut [u64])
 
 // What a call leaves, where out has its size.
 fn run(call: Call, x: Dual2, y: Dual2, z: Dual2, out: &mut [u64]) -> u32
-    requires { Sized dual2Layout.width (length out.old) call }
-    ensures { (result, out.new) ≡ leaves (mapOutcome words_of (answer_of dual2Kind call x y z)) out.old }
+    requires { Sized dual2_layout.width (length out.old) call }
+    ensures { (result, out.new) ≡ leaves (map_outcome words_of (answer_of dual2_kind call x y z)) out.old }
 {
     match call {
         Call::Unknown => refusals::WRONG_LENGTH,
@@ -125,7 +125,7 @@ fn run(call: Call, x: Dual2, y: Dual2, z: Dual2, out: &mut [u64]) -> u32
 
 // A call by function number: 0, or the number that it is refused by with nothing written.
 pub fn call(function: u32, exponent: i32, records: &[u64], floats: &[u64], out: &mut [u64]) -> u32
-    ensures { (result, out.new) ≡ calledOf dual2Kind function exponent records.now floats.now out.old }
+    ensures { (result, out.new) ≡ called_of dual2_kind function exponent records.now floats.now out.old }
 {
     let call = table::call_of(WIDTH, function, exponent, records.len(), floats, out.len());
     let mut lent = [0.0; 3 * WIDTH];
@@ -138,7 +138,7 @@ pub fn call(function: u32, exponent: i32, records: &[u64], floats: &[u64], out: 
 
 // An operation on two records, without the table: what `call` leaves for its number and no floats.
 pub fn operator(op: Binary, records: &[u64], out: &mut [u64]) -> u32
-    ensures { (result, out.new) ≡ operatedOf dual2Kind op records.now out.old }
+    ensures { (result, out.new) ≡ operated_of dual2_kind op records.now out.old }
 {
     if records.len() != 2 * WIDTH {
         return refusals::WRONG_LENGTH;
@@ -155,7 +155,7 @@ pub fn operator(op: Binary, records: &[u64], out: &mut [u64]) -> u32
 
 // A record's parts to out, or its refusal.
 fn leave_floats(answer: Dual2Answer, out: &mut [f64]) -> u32
-    ensures { (result, out.new) ≡ joinedLeft dual2Kind (outcome answer) out.old }
+    ensures { (result, out.new) ≡ joined_left dual2_kind (outcome answer) out.old }
 {
     if out.len() != WIDTH {
         return refusals::WRONG_LENGTH;
@@ -171,14 +171,14 @@ fn leave_floats(answer: Dual2Answer, out: &mut [f64]) -> u32
 
 // The sum of the records of a run.
 pub fn sum(run: &[f64], out: &mut [f64]) -> u32
-    ensures { (result, out.new) ≡ summedOf dual2Kind run.now out.old }
+    ensures { (result, out.new) ≡ summed_of dual2_kind run.now out.old }
 {
     leave_floats(dual2::sum(run), out)
 }
 
 // The product of the records of a run.
 pub fn product(run: &[f64], out: &mut [f64]) -> u32
-    ensures { (result, out.new) ≡ multipliedOf dual2Kind run.now out.old }
+    ensures { (result, out.new) ≡ multiplied_of dual2_kind run.now out.old }
 {
     leave_floats(dual2::product(run), out)
 }

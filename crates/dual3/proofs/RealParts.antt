@@ -1,8 +1,8 @@
 -- The real parts of `Dual3` come from real parts alone: each operation computes them so. Assumes nothing.
 use Rattle.algebra.specs.Algebra.{RealParts}
-use Rattle.derivatives.specs.Series.{recipSeries}
-use Rattle.dual3.specs.Rules.{dual3Algebra, dual3Chain, dual3Mul, dual3Div, dual3Add, dual3Sub, dual3Neg, dual3MulFloat, dual3DivFloat}
+use Rattle.derivatives.specs.Series.{recip_series}
+use Rattle.dual3.specs.Rules.{dual3_algebra, dual3_chain, dual3_mul, dual3_div, dual3_add, dual3_sub, dual3_neg, dual3_mul_float, dual3_div_float}
 
-pub dual3-reals : RealParts dual3Algebra
-unfolding recipSeries dual3Chain dual3Mul dual3Div dual3Add dual3Sub dual3Neg dual3MulFloat dual3DivFloat
-dual3-reals = search
+pub dual3_reals : RealParts dual3_algebra
+unfolding recip_series dual3_chain dual3_mul dual3_div dual3_add dual3_sub dual3_neg dual3_mul_float dual3_div_float
+dual3_reals = search

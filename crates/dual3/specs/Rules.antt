@@ -6,7 +6,7 @@ use Rattle.real.specs.Operations.{◌⊕◌, ◌⊖◌, ◌⊗◌, ◌⊘◌, ze
 use Rattle.algebra.specs.Algebra.{Algebra}
 use Rattle.algebra.specs.Flat.{Layout, decode}
 use Rattle.algebra.specs.Outcome.{Outcome, value, refused}
-use Rattle.derivatives.specs.Series.{recipSeries}
+use Rattle.derivatives.specs.Series.{recip_series}
 use Rattle.dual3.specs.declared.Dual3.{Dual3}
 use Rattle.dual3.specs.declared.Dual3SinCos.{Dual3SinCos}
 use Rattle.dual3.specs.declared.Dual3Answer.{Dual3Answer}
@@ -17,16 +17,16 @@ abbrev pub dual3 : Float → Float → Float → Float → Dual3
 dual3 re v1 v2 v3 = record { re = re; v1 = v1; v2 = v2; v3 = v3 }
 
 -- a real part alone
-abbrev pub dual3FromRe : Float → Dual3
-dual3FromRe re = dual3 re zero zero zero
+abbrev pub dual3_from_re : Float → Dual3
+dual3_from_re re = dual3 re zero zero zero
 
 -- the first derivative part set to 1
-abbrev pub dual3Derivative : Dual3 → Dual3
-dual3Derivative self = dual3 self.re one self.v2 self.v3
+abbrev pub dual3_derivative : Dual3 → Dual3
+dual3_derivative self = dual3 self.re one self.v2 self.v3
 
 -- chain rule
-unfoldable pub dual3Chain : Dual3 → Float → Float → Float → Float → Dual3
-dual3Chain self f0 f1 f2 f3 =
+unfoldable pub dual3_chain : Dual3 → Float → Float → Float → Float → Dual3
+dual3_chain self f0 f1 f2 f3 =
     let three = one ⊕ one ⊕ one in
     dual3
     f0
@@ -35,8 +35,8 @@ dual3Chain self f0 f1 f2 f3 =
     (f3 ⊗ self.v1 ⊗ self.v1 ⊗ self.v1 ⊕ three ⊗ f2 ⊗ self.v1 ⊗ self.v2 ⊕ f1 ⊗ self.v3)
 
 -- product rule
-unfoldable pub dual3Mul : Dual3 → Dual3 → Dual3
-dual3Mul self rhs =
+unfoldable pub dual3_mul : Dual3 → Dual3 → Dual3
+dual3_mul self rhs =
     let two = one ⊕ one in
     let three = one ⊕ two in
     dual3
@@ -45,64 +45,64 @@ dual3Mul self rhs =
     (self.v2 ⊗ rhs.re ⊕ two ⊗ self.v1 ⊗ rhs.v1 ⊕ self.re ⊗ rhs.v2)
     (self.v3 ⊗ rhs.re ⊕ three ⊗ (self.v2 ⊗ rhs.v1 ⊕ self.v1 ⊗ rhs.v2) ⊕ self.re ⊗ rhs.v3)
 
--- quotient rule: the product with the chain rule of the reciprocal, whose rec, f0, f1, f2, f3 are `recipSeries`
-unfoldable pub dual3Div : Dual3 → Dual3 → Dual3
-dual3Div self rhs =
-    let s = recipSeries rhs.re in
-    dual3Mul self (dual3Chain rhs s.f0 s.f1 s.f2 s.f3)
+-- quotient rule: the product with the chain rule of the reciprocal, whose rec, f0, f1, f2, f3 are `recip_series`
+unfoldable pub dual3_div : Dual3 → Dual3 → Dual3
+dual3_div self rhs =
+    let s = recip_series rhs.re in
+    dual3_mul self (dual3_chain rhs s.f0 s.f1 s.f2 s.f3)
 
 -- part by part
-unfoldable pub dual3Add : Dual3 → Dual3 → Dual3
-dual3Add self other = dual3 (self.re ⊕ other.re) (self.v1 ⊕ other.v1) (self.v2 ⊕ other.v2) (self.v3 ⊕ other.v3)
+unfoldable pub dual3_add : Dual3 → Dual3 → Dual3
+dual3_add self other = dual3 (self.re ⊕ other.re) (self.v1 ⊕ other.v1) (self.v2 ⊕ other.v2) (self.v3 ⊕ other.v3)
 
-unfoldable pub dual3Sub : Dual3 → Dual3 → Dual3
-dual3Sub self other = dual3 (self.re ⊖ other.re) (self.v1 ⊖ other.v1) (self.v2 ⊖ other.v2) (self.v3 ⊖ other.v3)
+unfoldable pub dual3_sub : Dual3 → Dual3 → Dual3
+dual3_sub self other = dual3 (self.re ⊖ other.re) (self.v1 ⊖ other.v1) (self.v2 ⊖ other.v2) (self.v3 ⊖ other.v3)
 
-unfoldable pub dual3Neg : Dual3 → Dual3
-dual3Neg self = dual3 (neg self.re) (neg self.v1) (neg self.v2) (neg self.v3)
+unfoldable pub dual3_neg : Dual3 → Dual3
+dual3_neg self = dual3 (neg self.re) (neg self.v1) (neg self.v2) (neg self.v3)
 
 -- a plain float multiplies or divides each part
-unfoldable pub dual3MulFloat : Dual3 → Float → Dual3
-dual3MulFloat self other = dual3 (self.re ⊗ other) (self.v1 ⊗ other) (self.v2 ⊗ other) (self.v3 ⊗ other)
+unfoldable pub dual3_mul_float : Dual3 → Float → Dual3
+dual3_mul_float self other = dual3 (self.re ⊗ other) (self.v1 ⊗ other) (self.v2 ⊗ other) (self.v3 ⊗ other)
 
-unfoldable pub dual3DivFloat : Dual3 → Float → Dual3
-dual3DivFloat self other = dual3 (self.re ⊘ other) (self.v1 ⊘ other) (self.v2 ⊘ other) (self.v3 ⊘ other)
+unfoldable pub dual3_div_float : Dual3 → Float → Dual3
+dual3_div_float self other = dual3 (self.re ⊘ other) (self.v1 ⊘ other) (self.v2 ⊘ other) (self.v3 ⊘ other)
 
 -- the highest order of a derivative that the record carries: NDERIV
-abbrev pub dual3Nderiv : ℕ
-dual3Nderiv = 3
+abbrev pub dual3_nderiv : ℕ
+dual3_nderiv = 3
 
 -- `Dual3` by its operations
-abbrev pub dual3Algebra : Algebra Dual3
-dual3Algebra = record {
+abbrev pub dual3_algebra : Algebra Dual3
+dual3_algebra = record {
   re = λ x. x.re;
-  fromRe = dual3FromRe;
-  withRe = λ x re. dual3 re x.v1 x.v2 x.v3;
-  add = dual3Add;
-  sub = dual3Sub;
-  mul = dual3Mul;
-  div = dual3Div;
-  neg = dual3Neg;
-  mulFloat = dual3MulFloat;
-  divFloat = dual3DivFloat;
-  chain = dual3Chain;
+  from_re = dual3_from_re;
+  with_re = λ x re. dual3 re x.v1 x.v2 x.v3;
+  add = dual3_add;
+  sub = dual3_sub;
+  mul = dual3_mul;
+  div = dual3_div;
+  neg = dual3_neg;
+  mul_float = dual3_mul_float;
+  div_float = dual3_div_float;
+  chain = dual3_chain;
 }
 
 -- four floats a record: re, v1, v2, v3
-abbrev pub dual3Layout : Layout Dual3
-dual3Layout = record {
+abbrev pub dual3_layout : Layout Dual3
+dual3_layout = record {
   width = 4;
   parts = λ x. x.re ∷ x.v1 ∷ x.v2 ∷ x.v3 ∷ [];
   make = λ part. dual3 (part 0) (part 1) (part 2) (part 3);
 }
 
 -- the records that flat floats hold
-abbrev pub dual3Records : List Float → List Dual3
-dual3Records l = decode dual3Layout l
+abbrev pub dual3_records : List Float → List Dual3
+dual3_records l = decode dual3_layout l
 
 -- a sine and a cosine
-abbrev pub dual3SinCos : Dual3 → Dual3 → Dual3SinCos
-dual3SinCos sin cos = record { sin = sin; cos = cos }
+abbrev pub dual3_sin_cos : Dual3 → Dual3 → Dual3SinCos
+dual3_sin_cos sin cos = record { sin = sin; cos = cos }
 
 -- document 01's reading of an answer: the record, or the number that it is refused by
 abbrev pub outcome : Dual3Answer → Outcome Dual3

@@ -1,7 +1,7 @@
 // The functions of impl_derivatives.rs, each by its series or its plan; `mul_add` and `powd` are lib.rs's, `sph_j1_series` is document 02's.
 ghost use Rattle.std.specs.Prelude.{◌≡◌};
-ghost use Rattle.derivatives.specs.Apply.{chainBy, smallJ0, smallJ2, besselJ1, besselJ2, cubicJ1, sphJ1SeriesOf, runPlan, applyOf, recipOf, sqrtOf, sinOf, cosOf, atan2Of, mulAddOf, powdOf};
-ghost use Rattle.dual3.specs.Rules.{dual3MulFloat, dual3Nderiv, dual3Algebra, dual3SinCos, outcome};
+ghost use Rattle.derivatives.specs.Apply.{chain_by, small_j0, small_j2, bessel_j1, bessel_j2, cubic_j1, sph_j1_series_of, run_plan, apply_of, recip_of, sqrt_of, sin_of, cos_of, atan2_of, mul_add_of, powd_of};
+ghost use Rattle.dual3.specs.Rules.{dual3_mul_float, dual3_nderiv, dual3_algebra, dual3_sin_cos, outcome};
 
 use crate::{Dual3, Dual3Answer, Dual3SinCos};
 use derivatives::{Function, Plan, Series};
@@ -9,38 +9,38 @@ use derivatives::{Function, Plan, Series};
 impl Dual3 {
     // The chain rule with as many derivatives of a series as the record carries.
     fn chain(self, s: Series) -> Self
-        ensures { result ≡ chainBy dual3Algebra self s }
+        ensures { result ≡ chain_by dual3_algebra self s }
     {
         self.chain_rule(s.f0, s.f1, s.f2, s.f3)
     }
 
     pub fn scale(self, factor: f64) -> Self
-        ensures { result ≡ dual3MulFloat self factor }
+        ensures { result ≡ dual3_mul_float self factor }
     {
         self.mul_float(factor)
     }
 
     pub fn recip(self) -> Self
-        ensures { result ≡ recipOf dual3Algebra self }
+        ensures { result ≡ recip_of dual3_algebra self }
     {
         self.chain(Series::recip(self.re))
     }
 
     pub fn inv(self) -> Self
-        ensures { result ≡ recipOf dual3Algebra self }
+        ensures { result ≡ recip_of dual3_algebra self }
     {
         self.recip()
     }
 
     pub fn sqrt(self) -> Self
-        ensures { result ≡ sqrtOf dual3Algebra self }
+        ensures { result ≡ sqrt_of dual3_algebra self }
     {
         self.chain(Series::sqrt(self.re))
     }
 
     // `sin` and `cos` are the sine and the cosine of re.
     pub fn sin_cos(self, sin: f64, cos: f64) -> Dual3SinCos
-        ensures { result ≡ dual3SinCos (sinOf dual3Algebra self sin cos) (cosOf dual3Algebra self sin cos) }
+        ensures { result ≡ dual3_sin_cos (sin_of dual3_algebra self sin cos) (cos_of dual3_algebra self sin cos) }
     {
         let s = self.chain(Series::sin(sin, cos));
         let c = self.chain(Series::cos(sin, cos));
@@ -49,7 +49,7 @@ impl Dual3 {
 
     // `atan` is the arctangent of the quotient's real part, `quadrant` the four-quadrant value.
     pub fn atan2(self, other: Dual3, atan: f64, quadrant: f64) -> Self
-        ensures { result ≡ atan2Of dual3Algebra self other atan quadrant }
+        ensures { result ≡ atan2_of dual3_algebra self other atan quadrant }
     {
         let q = self.div(other);
         let mut res = q.chain(Series::atan(q.re, atan));
@@ -58,14 +58,14 @@ impl Dual3 {
     }
 
     pub fn mul_add(self, a: Dual3, b: Dual3) -> Self
-        ensures { result ≡ mulAddOf dual3Algebra self a b }
+        ensures { result ≡ mul_add_of dual3_algebra self a b }
     {
         self.mul(a).add(b)
     }
 
     // Power with dual exponent: `ln` is the logarithm of re, `exp` the exponential of the product's real part.
     pub fn powd(self, exponent: Dual3, ln: f64, exp: f64) -> Self
-        ensures { result ≡ powdOf dual3Algebra self exponent ln exp }
+        ensures { result ≡ powd_of dual3_algebra self exponent ln exp }
     {
         self.chain(Series::ln(self.re, ln))
             .mul(exponent)
@@ -74,7 +74,7 @@ impl Dual3 {
 
     // sph_j1 with the cubic of its series for small re, which the source leaves out; `sin` and `cos` are the sine and the cosine of re.
     pub fn sph_j1_series(self, sin: f64, cos: f64) -> Self
-        ensures { result ≡ sphJ1SeriesOf dual3Algebra self sin cos }
+        ensures { result ≡ sph_j1_series_of dual3_algebra self sin cos }
     {
         if derivatives::is_small(self.re) {
             return self.cubic_j1();
@@ -86,13 +86,13 @@ impl Dual3 {
 
     // Any function of impl_derivatives.rs, or sph_j1_series, with the outside floats that it needs.
     pub fn apply(self, f: Function) -> Dual3Answer
-        ensures { outcome result ≡ applyOf dual3Algebra dual3Nderiv self f }
+        ensures { outcome result ≡ apply_of dual3_algebra dual3_nderiv self f }
     {
         self.run(derivatives::choose(self.re, f))
     }
 
     fn run(self, p: Plan) -> Dual3Answer
-        ensures { outcome result ≡ runPlan dual3Algebra dual3Nderiv self p }
+        ensures { outcome result ≡ run_plan dual3_algebra dual3_nderiv self p }
     {
         match p {
             Plan::Refused(n) => Dual3Answer::Refused(n),
@@ -118,32 +118,32 @@ impl Dual3 {
     }
 
     fn small_j0(self) -> Self
-        ensures { result ≡ smallJ0 dual3Algebra self }
+        ensures { result ≡ small_j0 dual3_algebra self }
     {
         Self::ONE.sub(self.mul(self).div_float(6.0))
     }
 
     fn small_j2(self) -> Self
-        ensures { result ≡ smallJ2 dual3Algebra self }
+        ensures { result ≡ small_j2 dual3_algebra self }
     {
         self.mul(self).div_float(15.0)
     }
 
     fn cubic_j1(self) -> Self
-        ensures { result ≡ cubicJ1 dual3Algebra self }
+        ensures { result ≡ cubic_j1 dual3_algebra self }
     {
         let cube = self.mul(self).mul(self);
         self.div_float(3.0).sub(cube.div_float(30.0))
     }
 
     fn bessel_j1(self, s: Dual3, c: Dual3) -> Self
-        ensures { result ≡ besselJ1 dual3Algebra self s c }
+        ensures { result ≡ bessel_j1 dual3_algebra self s c }
     {
         s.sub(self.mul(c)).div(self.mul(self))
     }
 
     fn bessel_j2(self, s: Dual3, c: Dual3) -> Self
-        ensures { result ≡ besselJ2 dual3Algebra self s c }
+        ensures { result ≡ bessel_j2 dual3_algebra self s c }
     {
         let s2 = self.mul(self);
         s.sub(self.mul(c))

@@ -5,7 +5,7 @@ mod operations;
 mod records;
 
 ghost use Rattle.std.specs.Prelude.{◌≡◌};
-ghost use Rattle.dual3.specs.Rules.{dual3, dual3FromRe, dual3Derivative, dual3Chain, dual3Mul, dual3Div};
+ghost use Rattle.dual3.specs.Rules.{dual3, dual3_from_re, dual3_derivative, dual3_chain, dual3_mul, dual3_div};
 
 use derivatives::Series;
 pub use records::{product, read, sum, write};
@@ -63,7 +63,7 @@ impl Dual3 {
 
     // Create a new third order dual number from the real part.
     pub fn from_re(re: f64) -> Self
-        ensures { result ≡ dual3FromRe re }
+        ensures { result ≡ dual3_from_re re }
     {
         Self {
             re,
@@ -75,7 +75,7 @@ impl Dual3 {
 
     // Set the first derivative part to 1.
     pub fn derivative(mut self) -> Self
-        ensures { result ≡ dual3Derivative self }
+        ensures { result ≡ dual3_derivative self }
     {
         self.v1 = 1.0;
         self
@@ -83,7 +83,7 @@ impl Dual3 {
 
     /* chain rule */
     fn chain_rule(self, f0: f64, f1: f64, f2: f64, f3: f64) -> Self
-        ensures { result ≡ dual3Chain self f0 f1 f2 f3 }
+        ensures { result ≡ dual3_chain self f0 f1 f2 f3 }
     {
         let three = 1.0 + 1.0 + 1.0;
         Self {
@@ -96,7 +96,7 @@ impl Dual3 {
 
     /* product rule */
     pub fn mul(self, rhs: Dual3) -> Self
-        ensures { result ≡ dual3Mul self rhs }
+        ensures { result ≡ dual3_mul self rhs }
     {
         let two = 1.0 + 1.0;
         let three = 1.0 + two;
@@ -110,7 +110,7 @@ impl Dual3 {
 
     /* quotient rule: the product with the chain rule of the reciprocal */
     pub fn div(self, rhs: Dual3) -> Self
-        ensures { result ≡ dual3Div self rhs }
+        ensures { result ≡ dual3_div self rhs }
     {
         let s = Series::recip(rhs.re);
         self.mul(rhs.chain_rule(s.f0, s.f1, s.f2, s.f3))

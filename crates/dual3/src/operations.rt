@@ -3,15 +3,15 @@ ghost use Rattle.std.specs.Prelude.{◌≡◌, not};
 ghost use Rattle.std.specs.Float.Ieee.{lt, le, eq};
 ghost use Rattle.real.specs.Operations.{zero, one};
 ghost use Rattle.real.specs.Sign.{sign_of};
-ghost use Rattle.algebra.specs.Algebra.{zero_of, one_of, addFloat, subFloat, magnitude};
-ghost use Rattle.derivatives.specs.Apply.{absSubOf, signumOf};
-ghost use Rattle.dual3.specs.Rules.{dual3Add, dual3Sub, dual3Neg, dual3MulFloat, dual3DivFloat, dual3Nderiv, dual3Algebra};
+ghost use Rattle.algebra.specs.Algebra.{zero_of, one_of, add_float, sub_float, magnitude};
+ghost use Rattle.derivatives.specs.Apply.{abs_sub_of, signum_of};
+ghost use Rattle.dual3.specs.Rules.{dual3_add, dual3_sub, dual3_neg, dual3_mul_float, dual3_div_float, dual3_nderiv, dual3_algebra};
 
 use crate::Dual3;
 
 impl Dual3 {
     pub fn zero() -> Self
-        ensures { result ≡ zero_of dual3Algebra }
+        ensures { result ≡ zero_of dual3_algebra }
     {
         Self::ZERO
     }
@@ -23,7 +23,7 @@ impl Dual3 {
     }
 
     pub fn one() -> Self
-        ensures { result ≡ one_of dual3Algebra }
+        ensures { result ≡ one_of dual3_algebra }
     {
         Self::ONE
     }
@@ -35,13 +35,13 @@ impl Dual3 {
     }
 
     pub fn nderiv() -> usize
-        ensures { result ≡ dual3Nderiv }
+        ensures { result ≡ dual3_nderiv }
     {
         Self::NDERIV
     }
 
     pub fn add(self, other: Dual3) -> Self
-        ensures { result ≡ dual3Add self other }
+        ensures { result ≡ dual3_add self other }
     {
         Self {
             re: self.re + other.re,
@@ -52,7 +52,7 @@ impl Dual3 {
     }
 
     pub fn sub(self, other: Dual3) -> Self
-        ensures { result ≡ dual3Sub self other }
+        ensures { result ≡ dual3_sub self other }
     {
         Self {
             re: self.re - other.re,
@@ -63,7 +63,7 @@ impl Dual3 {
     }
 
     pub fn neg(self) -> Self
-        ensures { result ≡ dual3Neg self }
+        ensures { result ≡ dual3_neg self }
     {
         Self {
             re: -self.re,
@@ -74,7 +74,7 @@ impl Dual3 {
     }
 
     pub fn mul_float(self, other: f64) -> Self
-        ensures { result ≡ dual3MulFloat self other }
+        ensures { result ≡ dual3_mul_float self other }
     {
         Self {
             re: self.re * other,
@@ -85,7 +85,7 @@ impl Dual3 {
     }
 
     pub fn div_float(self, other: f64) -> Self
-        ensures { result ≡ dual3DivFloat self other }
+        ensures { result ≡ dual3_div_float self other }
     {
         Self {
             re: self.re / other,
@@ -96,14 +96,14 @@ impl Dual3 {
     }
 
     pub fn add_float(mut self, other: f64) -> Self
-        ensures { result ≡ addFloat dual3Algebra self other }
+        ensures { result ≡ add_float dual3_algebra self other }
     {
         self.re = self.re + other;
         self
     }
 
     pub fn sub_float(mut self, other: f64) -> Self
-        ensures { result ≡ subFloat dual3Algebra self other }
+        ensures { result ≡ sub_float dual3_algebra self other }
     {
         self.re = self.re - other;
         self
@@ -111,7 +111,7 @@ impl Dual3 {
 
     // x where the sign bit of re is clear, else -x.
     pub fn abs(self) -> Self
-        ensures { result ≡ magnitude dual3Algebra self }
+        ensures { result ≡ magnitude dual3_algebra self }
     {
         if real::is_negative(self.re) {
             self.neg()
@@ -121,7 +121,7 @@ impl Dual3 {
     }
 
     pub fn abs_sub(self, other: Dual3) -> Self
-        ensures { result ≡ absSubOf dual3Algebra self other }
+        ensures { result ≡ abs_sub_of dual3_algebra self other }
     {
         if self.re > other.re {
             self.sub(other)
@@ -131,7 +131,7 @@ impl Dual3 {
     }
 
     pub fn signum(self) -> Self
-        ensures { result ≡ signumOf dual3Algebra self }
+        ensures { result ≡ signum_of dual3_algebra self }
     {
         if real::is_negative(self.re) {
             if self.re == 0.0 {

@@ -1,15 +1,15 @@
 // `Dual3` records in flat floats, four floats a record, the real part first: one reader and one writer, and the sum and the product of a run.
 ghost use Rattle.std.specs.Prelude.{◌≡◌, ◌+◌, ◌*◌, ◌<◌, length, get_or, set};
 ghost use Rattle.algebra.specs.Algebra.{zero_of};
-ghost use Rattle.algebra.specs.Flat.{sum_of, productOf};
-ghost use Rattle.dual3.specs.Rules.{dual3Algebra, dual3Layout, dual3Records, outcome};
+ghost use Rattle.algebra.specs.Flat.{sum_of, product_of};
+ghost use Rattle.dual3.specs.Rules.{dual3_algebra, dual3_layout, dual3_records, outcome};
 
 use crate::{Dual3, Dual3Answer};
 
 // Record number `at`. Inner: for the crates above, which show its `requires`.
 pub fn read(floats: &[f64], at: usize) -> Dual3
     requires { at * 4 + 3 < length floats.now }
-    ensures { result ≡ get_or (dual3Records floats.now) at (zero_of dual3Algebra) }
+    ensures { result ≡ get_or (dual3_records floats.now) at (zero_of dual3_algebra) }
 {
     let first = at * 4;
     Dual3 {
@@ -23,7 +23,7 @@ pub fn read(floats: &[f64], at: usize) -> Dual3
 // Record number `at` is x. Inner: for the crates above, which show its `requires`.
 pub fn write(floats: &mut [f64], at: usize, x: Dual3)
     requires { at * 4 + 3 < length floats.old }
-    ensures { dual3Records floats.new ≡ set (dual3Records floats.old) at x }
+    ensures { dual3_records floats.new ≡ set (dual3_records floats.old) at x }
 {
     let first = at * 4;
     floats[first] = x.re;
@@ -34,7 +34,7 @@ pub fn write(floats: &mut [f64], at: usize, x: Dual3)
 
 // From zero, left to right. A length that is not whole records is refused.
 pub fn sum(floats: &[f64]) -> Dual3Answer
-    ensures { outcome result ≡ sum_of dual3Layout dual3Algebra floats.now }
+    ensures { outcome result ≡ sum_of dual3_layout dual3_algebra floats.now }
 {
     if floats.len() % 4 != 0 {
         return Dual3Answer::Refused(refusals::WRONG_LENGTH);
@@ -51,7 +51,7 @@ pub fn sum(floats: &[f64]) -> Dual3Answer
 
 // From one, left to right. A length that is not whole records is refused.
 pub fn product(floats: &[f64]) -> Dual3Answer
-    ensures { outcome result ≡ productOf dual3Layout dual3Algebra floats.now }
+    ensures { outcome result ≡ product_of dual3_layout dual3_algebra floats.now }
 {
     if floats.len() % 4 != 0 {
         return Dual3Answer::Refused(refusals::WRONG_LENGTH);

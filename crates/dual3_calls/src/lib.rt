@@ -1,10 +1,10 @@
 // Calls over `Dual3`: four words a record, re, v1, v2 and v3.
 ghost use Rattle.std.specs.Prelude.{◌≡◌, ◌++◌, ◌+◌, length};
-ghost use Rattle.algebra.specs.Outcome.{mapOutcome};
-ghost use Rattle.dual3.specs.Rules.{dual3Layout, outcome};
+ghost use Rattle.algebra.specs.Outcome.{map_outcome};
+ghost use Rattle.dual3.specs.Rules.{dual3_layout, outcome};
 ghost use Rattle.floats.specs.Words.{words_of};
-ghost use Rattle.calls.specs.Called.{Sized, unaryOf, binaryOf, byFloatOf, operateOf, answer_of, leaves, calledOf, operatedOf, joinedLeft, summedOf, multipliedOf};
-ghost use Rattle.dual3_calls.specs.Kind.{dual3Kind, dual3Derivatives};
+ghost use Rattle.calls.specs.Called.{Sized, unary_of, binary_of, by_float_of, operate_of, answer_of, leaves, called_of, operated_of, joined_left, summed_of, multiplied_of};
+ghost use Rattle.dual3_calls.specs.Kind.{dual3_kind, dual3_derivatives};
 
 use calls::{Binary, ByFloat, Call, Operation, Unary, predicates, table};
 use dual3::{Dual3, Dual3Answer, Dual3SinCos};
@@ -14,7 +14,7 @@ const WIDTH: usize = 4;
 
 // `derivative` and its kin by function number; no other number is one of them.
 fn derivative(function: u32, x: Dual3) -> Dual3Answer
-    ensures { outcome result ≡ dual3Derivatives function x }
+    ensures { outcome result ≡ dual3_derivatives function x }
 {
     match function {
         0x05 => Dual3Answer::Value(x.derivative()),
@@ -23,7 +23,7 @@ fn derivative(function: u32, x: Dual3) -> Dual3Answer
 }
 
 fn unary(op: Unary, x: Dual3) -> Dual3
-    ensures { result ≡ unaryOf dual3Kind op x }
+    ensures { result ≡ unary_of dual3_kind op x }
 {
     match op {
         Unary::Neg => x.neg(),
@@ -33,7 +33,7 @@ fn unary(op: Unary, x: Dual3) -> Dual3
 }
 
 fn binary(op: Binary, x: Dual3, y: Dual3) -> Dual3
-    ensures { result ≡ binaryOf dual3Kind op x y }
+    ensures { result ≡ binary_of dual3_kind op x y }
 {
     match op {
         Binary::Add => x.add(y),
@@ -45,7 +45,7 @@ fn binary(op: Binary, x: Dual3, y: Dual3) -> Dual3
 }
 
 fn by_float(op: ByFloat, x: Dual3, f: f64) -> Dual3
-    ensures { result ≡ byFloatOf dual3Kind op x f }
+    ensures { result ≡ by_float_of dual3_kind op x f }
 {
     match op {
         ByFloat::Mul => x.mul_float(f),
@@ -57,7 +57,7 @@ fn by_float(op: ByFloat, x: Dual3, f: f64) -> Dual3
 
 // What gives one record.
 fn operate(op: Operation, x: Dual3, y: Dual3, z: Dual3) -> Dual3Answer
-    ensures { outcome result ≡ operateOf dual3Kind op x y z }
+    ensures { outcome result ≡ operate_of dual3_kind op x y z }
 {
     match op {
         Operation::FromRe(re) => Dual3Answer::Value(Dual3::from_re(re)),
@@ -77,8 +77,8 @@ fn operate(op: Operation, x: Dual3, y: Dual3, z: Dual3) -> Dual3Answer
 
 // A record's words to out, or its refusal.
 fn leave(answer: Dual3Answer, out: &mut [u64]) -> u32
-    requires { length out.old ≡ dual3Layout.width }
-    ensures { (result, out.new) ≡ leaves (mapOutcome words_of (mapOutcome dual3Layout.parts (outcome answer))) out.old }
+    requires { length out.old ≡ dual3_layout.width }
+    ensures { (result, out.new) ≡ leaves (map_outcome words_of (map_outcome dual3_layout.parts (outcome answer))) out.old }
 {
     match answer {
         Dual3Answer::Value(x) => {
@@ -93,8 +93,8 @@ fn leave(answer: Dual3Answer, out: &mut [u64]) -> u32
 
 // The words of two records to out.
 fn leave_both(answer: Dual3SinCos, out: &mut [u64])
-    requires { length out.old ≡ dual3Layout.width + dual3Layout.width }
-    ensures { out.new ≡ words_of (dual3Layout.parts answer.sin ++ dual3Layout.parts answer.cos) }
+    requires { length out.old ≡ dual3_layout.width + dual3_layout.width }
+    ensures { out.new ≡ words_of (dual3_layout.parts answer.sin ++ dual3_layout.parts answer.cos) }
 {
     let s = answer.sin;
     let c = answer.cos;
@@ -106,8 +106,8 @@ fn leave_both(answer: Dual3SinCos, out: &mut [u64])
 
 // What a call leaves, where out has its size.
 fn run(call: Call, x: Dual3, y: Dual3, z: Dual3, out: &mut [u64]) -> u32
-    requires { Sized dual3Layout.width (length out.old) call }
-    ensures { (result, out.new) ≡ leaves (mapOutcome words_of (answer_of dual3Kind call x y z)) out.old }
+    requires { Sized dual3_layout.width (length out.old) call }
+    ensures { (result, out.new) ≡ leaves (map_outcome words_of (answer_of dual3_kind call x y z)) out.old }
 {
     match call {
         Call::Unknown => refusals::WRONG_LENGTH,
@@ -125,7 +125,7 @@ fn run(call: Call, x: Dual3, y: Dual3, z: Dual3, out: &mut [u64]) -> u32
 
 // A call by function number: 0, or the number that it is refused by with nothing written.
 pub fn call(function: u32, exponent: i32, records: &[u64], floats: &[u64], out: &mut [u64]) -> u32
-    ensures { (result, out.new) ≡ calledOf dual3Kind function exponent records.now floats.now out.old }
+    ensures { (result, out.new) ≡ called_of dual3_kind function exponent records.now floats.now out.old }
 {
     let call = table::call_of(WIDTH, function, exponent, records.len(), floats, out.len());
     let mut lent = [0.0; 3 * WIDTH];
@@ -138,7 +138,7 @@ pub fn call(function: u32, exponent: i32, records: &[u64], floats: &[u64], out: 
 
 // An operation on two records, without the table: what `call` leaves for its number and no floats.
 pub fn operator(op: Binary, records: &[u64], out: &mut [u64]) -> u32
-    ensures { (result, out.new) ≡ operatedOf dual3Kind op records.now out.old }
+    ensures { (result, out.new) ≡ operated_of dual3_kind op records.now out.old }
 {
     if records.len() != 2 * WIDTH {
         return refusals::WRONG_LENGTH;
@@ -155,7 +155,7 @@ pub fn operator(op: Binary, records: &[u64], out: &mut [u64]) -> u32
 
 // A record's parts to out, or its refusal.
 fn leave_floats(answer: Dual3Answer, out: &mut [f64]) -> u32
-    ensures { (result, out.new) ≡ joinedLeft dual3Kind (outcome answer) out.old }
+    ensures { (result, out.new) ≡ joined_left dual3_kind (outcome answer) out.old }
 {
     if out.len() != WIDTH {
         return refusals::WRONG_LENGTH;
@@ -171,14 +171,14 @@ fn leave_floats(answer: Dual3Answer, out: &mut [f64]) -> u32
 
 // The sum of the records of a run.
 pub fn sum(run: &[f64], out: &mut [f64]) -> u32
-    ensures { (result, out.new) ≡ summedOf dual3Kind run.now out.old }
+    ensures { (result, out.new) ≡ summed_of dual3_kind run.now out.old }
 {
     leave_floats(dual3::sum(run), out)
 }
 
 // The product of the records of a run.
 pub fn product(run: &[f64], out: &mut [f64]) -> u32
-    ensures { (result, out.new) ≡ multipliedOf dual3Kind run.now out.old }
+    ensures { (result, out.new) ≡ multiplied_of dual3_kind run.now out.old }
 {
     leave_floats(dual3::product(run), out)
 }

@@ -1,12 +1,12 @@
 // LU column by column, and the determinant.
 // Inner: for `dual_lu`, which has the entries. Its functions have a `requires`, which that crate shows.
 ghost use Rattle.std.specs.Prelude.{◌≡◌, ◌+◌, ◌*◌, ◌<◌, ◌≤◌, length};
-ghost use Rattle.dual.specs.Rules.{dualAlgebra, dualLayout, dualRecords, outcome};
+ghost use Rattle.dual.specs.Rules.{dual_algebra, dual_layout, dual_records, outcome};
 ghost use Rattle.matrices.specs.Matrix.{Square, RowPlace, cell};
-ghost use Rattle.matrices.specs.Lu.{going, subtractMultiple, subtractRow, reduceRow, reduce, column, countUp, luOf};
-ghost use Rattle.matrices.specs.RunAfter.{runAfter, swapsOf};
+ghost use Rattle.matrices.specs.Lu.{going, subtract_multiple, subtract_row, reduce_row, reduce, column, count_up, lu_of};
+ghost use Rattle.matrices.specs.RunAfter.{run_after, swaps_of};
 ghost use Rattle.matrices.specs.Determinant.{signed};
-ghost use Rattle.matrices.specs.Entries.{determinantLeft};
+ghost use Rattle.matrices.specs.Entries.{determinant_left};
 
 use dual::{Dual, DualAnswer};
 use matrices::AfterColumn;
@@ -15,7 +15,7 @@ use orders::Marks;
 // Record `to` less x times record `from`.
 fn subtract_record(a: &mut [f64], to: usize, from: usize, x: Dual)
     requires { (to * 2 + 1 < length a.old) × (from * 2 + 1 < length a.old) }
-    ensures { dualRecords a.new ≡ subtractMultiple dualAlgebra to from x (dualRecords a.old) }
+    ensures { dual_records a.new ≡ subtract_multiple dual_algebra to from x (dual_records a.old) }
 {
     let u = dual::read(a, to);
     let v = dual::read(a, from);
@@ -26,8 +26,8 @@ fn subtract_record(a: &mut [f64], to: usize, from: usize, x: Dual)
 fn subtract_row(n: usize, a: &mut [f64], i: usize, j: usize, x: Dual)
     requires row_place { RowPlace 2 n i a.old }
     requires row_place_2 { RowPlace 2 n j a.old }
-    requires i_value { cell dualAlgebra n (dualRecords a.old) j i ≡ x }
-    ensures { dualRecords a.new ≡ subtractRow dualAlgebra n i j (dualRecords a.old) }
+    requires i_value { cell dual_algebra n (dual_records a.old) j i ≡ x }
+    ensures { dual_records a.new ≡ subtract_row dual_algebra n i j (dual_records a.old) }
 {
     let to = j * n;
     let from = i * n;
@@ -40,7 +40,7 @@ fn subtract_row(n: usize, a: &mut [f64], i: usize, j: usize, x: Dual)
 fn reduce_row(n: usize, a: &mut [f64], i: usize, j: usize)
     requires row_place { RowPlace 2 n i a.old }
     requires row_place_2 { RowPlace 2 n j a.old }
-    ensures { dualRecords a.new ≡ reduceRow dualAlgebra n i j (dualRecords a.old) }
+    ensures { dual_records a.new ≡ reduce_row dual_algebra n i j (dual_records a.old) }
 {
     let at = j * n + i;
     let x = dual::read(a, at).div(dual::read(a, i * n + i));
@@ -52,7 +52,7 @@ fn reduce_row(n: usize, a: &mut [f64], i: usize, j: usize)
 fn reduce_rows(n: usize, a: &mut [f64], i: usize)
     requires square { Square 2 n a.old }
     requires i_lt_n { i < n }
-    ensures { dualRecords a.new ≡ reduce dualAlgebra n i (dualRecords a.old) }
+    ensures { dual_records a.new ≡ reduce dual_algebra n i (dual_records a.old) }
 {
     for j in i + 1..n {
         reduce_row(n, a, i, j);
@@ -65,8 +65,8 @@ fn run_column(n: usize, a: &mut [f64], order: &mut [usize], i: usize, swaps: usi
     requires order_len { length order.old ≡ n }
     requires i_lt_n { i < n }
     requires swaps_le_i { swaps ≤ i }
-    ensures result_bound { swapsOf result ≤ i + 1 }
-    ensures swaps_value { column dualAlgebra n i (going (dualRecords a.old) order.old swaps) ≡ runAfter result (dualRecords a.new) order.new }
+    ensures result_bound { swaps_of result ≤ i + 1 }
+    ensures swaps_value { column dual_algebra n i (going (dual_records a.old) order.old swaps) ≡ run_after result (dual_records a.new) order.new }
 {
     let s = matrices::rows::bring_pivot(2, n, a, order, i, swaps);
     let AfterColumn::Going { swaps: t } = s else {
@@ -79,8 +79,8 @@ fn run_column(n: usize, a: &mut [f64], order: &mut [usize], i: usize, swaps: usi
 // Every column in turn, from the matrix in a and the order 0, 1, .., n - 1.
 pub fn run_columns(n: usize, a: &mut [f64], order: &mut [usize]) -> AfterColumn
     requires square { Square 2 n a.old }
-    requires order_value { order.old ≡ countUp n }
-    ensures { luOf dualAlgebra n (dualRecords a.old) ≡ runAfter result (dualRecords a.new) order.new }
+    requires order_value { order.old ≡ count_up n }
+    ensures { lu_of dual_algebra n (dual_records a.old) ≡ run_after result (dual_records a.new) order.new }
 {
     let mut swaps = 0;
     for i in 0..n {
@@ -95,7 +95,7 @@ pub fn run_columns(n: usize, a: &mut [f64], order: &mut [usize]) -> AfterColumn
 
 // Negated where the count is odd.
 fn signed(x: Dual, swaps: usize) -> Dual
-    ensures { result ≡ signed dualAlgebra swaps x }
+    ensures { result ≡ signed dual_algebra swaps x }
 {
     if swaps % 2 == 1 {
         return x.neg();
@@ -107,7 +107,7 @@ fn signed(x: Dual, swaps: usize) -> Dual
 pub fn determinant_of(n: usize, a: &[f64], order: &[usize], swaps: usize) -> DualAnswer
     requires square { Square 2 n a.now }
     requires order_len { length order.now ≡ n }
-    ensures { outcome result ≡ determinantLeft dualAlgebra dualLayout n a.now order.now swaps }
+    ensures { outcome result ≡ determinant_left dual_algebra dual_layout n a.now order.now swaps }
 {
     let mut m = Marks {
         word: 0,

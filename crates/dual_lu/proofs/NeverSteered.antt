@@ -1,23 +1,23 @@
 -- Slopes never steer (demand 3), of the contracts themselves: any two calls of an entry whose sizes, lengths, orders, counts and real parts agree, whatever the
 -- derivative parts and whatever the result's buffers held, give the same answer, column, order and count, and the same real parts of what is written or handed back.
 -- Assumes nothing.
-use Rattle.dual.specs.Rules.{dualAlgebra, outcome}
-use Rattle.matrices.specs.Answers.{luOutcome, luColumn, solveOutcome}
-use Rattle.matrices.proofs.Calls.{LuNeverSteered, lu-never-steered-by, SolveNeverSteered, solve-never-steered-by, InverseNeverSteered, inverse-never-steered-by, DeterminantNeverSteered, determinant-never-steered-by}
-use Rattle.dual.proofs.Flat.{dual-laws}
+use Rattle.dual.specs.Rules.{dual_algebra, outcome}
+use Rattle.matrices.specs.Answers.{lu_outcome, lu_column, solve_outcome}
+use Rattle.matrices.proofs.Calls.{LuNeverSteered, lu_never_steered_by, SolveNeverSteered, solve_never_steered_by, InverseNeverSteered, inverse_never_steered_by, DeterminantNeverSteered, determinant_never_steered_by}
+use Rattle.dual.proofs.Flat.{dual_laws}
 use Rattle.dual_lu.proofs.lu as lu
 use Rattle.dual_lu.proofs.solve as solve
 use Rattle.dual_lu.proofs.determinant as determinant
 use Rattle.dual_lu.proofs.inverse as inverse
 
-pub lu-never-steered : LuNeverSteered lu.Kinds.r (λ κs x. luOutcome x) (λ κs x. luColumn x) 2 lu.Reads.Post
-lu-never-steered = lu-never-steered-by lu.Kinds.r (λ κs x. luOutcome x) (λ κs x. luColumn x) dual-laws
+pub lu_never_steered : LuNeverSteered lu.Kinds.r (λ κs x. lu_outcome x) (λ κs x. lu_column x) 2 lu.Reads.Post
+lu_never_steered = lu_never_steered_by lu.Kinds.r (λ κs x. lu_outcome x) (λ κs x. lu_column x) dual_laws
 
-pub solve-never-steered : SolveNeverSteered solve.Kinds.r (λ κs x. solveOutcome x) 2 solve.Reads.Post
-solve-never-steered = solve-never-steered-by solve.Kinds.r (λ κs x. solveOutcome x) dual-laws
+pub solve_never_steered : SolveNeverSteered solve.Kinds.r (λ κs x. solve_outcome x) 2 solve.Reads.Post
+solve_never_steered = solve_never_steered_by solve.Kinds.r (λ κs x. solve_outcome x) dual_laws
 
-pub inverse-never-steered : InverseNeverSteered inverse.Kinds.r (λ κs x. solveOutcome x) 2 inverse.Reads.Post
-inverse-never-steered = inverse-never-steered-by inverse.Kinds.r (λ κs x. solveOutcome x) dual-laws
+pub inverse_never_steered : InverseNeverSteered inverse.Kinds.r (λ κs x. solve_outcome x) 2 inverse.Reads.Post
+inverse_never_steered = inverse_never_steered_by inverse.Kinds.r (λ κs x. solve_outcome x) dual_laws
 
-pub determinant-never-steered : DeterminantNeverSteered dualAlgebra determinant.Kinds.r (λ κs x. outcome x) 2 determinant.Reads.Post
-determinant-never-steered = determinant-never-steered-by dual-laws determinant.Kinds.r (λ κs x. outcome x)
+pub determinant_never_steered : DeterminantNeverSteered dual_algebra determinant.Kinds.r (λ κs x. outcome x) 2 determinant.Reads.Post
+determinant_never_steered = determinant_never_steered_by dual_laws determinant.Kinds.r (λ κs x. outcome x)

@@ -1,11 +1,11 @@
 // LU, solve, determinant and inverse of matrices of `Dual` in lent floats: linalg.rs. Matrices lie row by row, the record at row r and column c at
 // (r * n + c) * 2, real part first. n is 0 to 32. A call that is refused by its number writes nothing, but for 6 (see `lu`).
 ghost use Rattle.std.specs.Prelude.{◌≡◌, length};
-ghost use Rattle.dual.specs.Rules.{dualAlgebra, dualLayout, dualRecords, outcome};
+ghost use Rattle.dual.specs.Rules.{dual_algebra, dual_layout, dual_records, outcome};
 ghost use Rattle.matrices.specs.Matrix.{Square};
-ghost use Rattle.matrices.specs.Lu.{luOf};
-ghost use Rattle.matrices.specs.Entries.{luAnswered, solveAnswered, luFinish, luLeft, solveLeft, inverseLeft, determinantLeft};
-ghost use Rattle.matrices.specs.Answers.{luOutcome, luColumn, solveOutcome};
+ghost use Rattle.matrices.specs.Lu.{lu_of};
+ghost use Rattle.matrices.specs.Entries.{lu_answered, solve_answered, lu_finish, lu_left, solve_left, inverse_left, determinant_left};
+ghost use Rattle.matrices.specs.Answers.{lu_outcome, lu_column, solve_outcome};
 
 use dual::DualAnswer;
 use matrices::AfterColumn;
@@ -16,7 +16,7 @@ fn factor(n: usize, a: &[f64], factors: &mut [f64], order: &mut [usize]) -> LuAn
     requires square { Square 2 n a.now }
     requires square_2 { Square 2 n factors.old }
     requires order_len { length order.old ≡ n }
-    ensures { luAnswered (luOutcome result) (luColumn result) factors.new order.new ≡ luFinish dualAlgebra dualLayout n (luOf dualAlgebra n (dualRecords a.now)) }
+    ensures { lu_answered (lu_outcome result) (lu_column result) factors.new order.new ≡ lu_finish dual_algebra dual_layout n (lu_of dual_algebra n (dual_records a.now)) }
 {
     floats::copy(a, factors);
     matrices::order::count_up(order);
@@ -36,7 +36,7 @@ fn factor(n: usize, a: &[f64], factors: &mut [f64], order: &mut [usize]) -> LuAn
 
 // The factors of a and the order of its rows: `LU::new`. Refused: 1, 2; 6 with the column in which no pivot exceeds zero, factors all +0.0 and order all 0.
 pub fn lu(n: usize, a: &[f64], factors: &mut [f64], order: &mut [usize]) -> LuAnswer
-    ensures { luAnswered (luOutcome result) (luColumn result) factors.new order.new ≡ luLeft dualAlgebra dualLayout n a.now factors.old order.old }
+    ensures { lu_answered (lu_outcome result) (lu_column result) factors.new order.new ≡ lu_left dual_algebra dual_layout n a.now factors.old order.old }
 {
     let number = matrices::refusal::lu(2, n, a.len(), factors.len(), order.len());
     if number != 0 {
@@ -47,7 +47,7 @@ pub fn lu(n: usize, a: &[f64], factors: &mut [f64], order: &mut [usize]) -> LuAn
 
 // x with a * x = b, from the factors and the order of a. Refused: 1, 2, 7.
 pub fn solve(n: usize, factors: &[f64], order: &[usize], b: &[f64], x: &mut [f64]) -> SolveAnswer
-    ensures { solveAnswered (solveOutcome result) x.new ≡ solveLeft dualAlgebra dualLayout n factors.now order.now b.now x.old }
+    ensures { solve_answered (solve_outcome result) x.new ≡ solve_left dual_algebra dual_layout n factors.now order.now b.now x.old }
 {
     let number = matrices::refusal::solve(2, n, factors.len(), order, b.len(), x.len());
     if number != 0 {
@@ -59,7 +59,7 @@ pub fn solve(n: usize, factors: &[f64], order: &[usize], b: &[f64], x: &mut [f64
 
 // The determinant, from the factors, the order and the swap count. Refused: 1, 2, 7, 8.
 pub fn determinant(n: usize, factors: &[f64], order: &[usize], swaps: usize) -> DualAnswer
-    ensures { outcome result ≡ determinantLeft dualAlgebra dualLayout n factors.now order.now swaps }
+    ensures { outcome result ≡ determinant_left dual_algebra dual_layout n factors.now order.now swaps }
 {
     let number = matrices::refusal::determinant(2, n, factors.len(), order.len());
     if number != 0 {
@@ -70,7 +70,7 @@ pub fn determinant(n: usize, factors: &[f64], order: &[usize], swaps: usize) -> 
 
 // The inverse, from the factors and the order. Refused: 1, 2, 7.
 pub fn inverse(n: usize, factors: &[f64], order: &[usize], out: &mut [f64]) -> SolveAnswer
-    ensures { solveAnswered (solveOutcome result) out.new ≡ inverseLeft dualAlgebra dualLayout n factors.now order.now out.old }
+    ensures { solve_answered (solve_outcome result) out.new ≡ inverse_left dual_algebra dual_layout n factors.now order.now out.old }
 {
     let number = matrices::refusal::inverse(2, n, factors.len(), order, out.len());
     if number != 0 {

@@ -56,8 +56,8 @@ fails : (t : Bool) → (T t → ⊥) → t ≡ false
 fails true f = absurd (f tt)
 fails false _ = refl
 
-one_more : (i : ℕ) → i + 1 ≡ suc i
-one_more i = add-suc i zero ∙ ap suc (add-zero i)
+one_more_lem : (i : ℕ) → i + 1 ≡ suc i
+one_more_lem i = add-suc i zero ∙ ap suc (add-zero i)
 
 abbrev none : Dual
 none = record { re = nan; eps = nan }
@@ -88,11 +88,11 @@ abbrev Arg : Type 0
 Arg = Bor (List Dual) × Unit {0}
 
 -- the callee: two records in, one out
-abbrev pub step-ended : Ended
-step-ended = record { signature = record { lifetimes = 0; outlives = []; params = plain (λ _. R) ∷ plain (λ _. R) ∷ []; result = plain (λ _. R) }; kept = (yes, (yes, tt)) }
+abbrev pub step_ended : Ended
+step_ended = record { signature = record { lifetimes = 0; outlives = []; params = plain (λ _. R) ∷ plain (λ _. R) ∷ []; result = plain (λ _. R) }; kept = (yes, (yes, tt)) }
 
-abbrev pub step-clauses : {M : Type 1} (𝓤 : Ura M) → (Dual → Dual → Dual) → Clauses 𝓤 step-ended
-step-clauses 𝓤 op κs a = record { ghost = Unit {0}; requires = λ _. emp 𝓤; ensures = λ _ r _. fact 𝓤 (r ≡ op a.0 a.1.0) }
+abbrev pub step_clauses : {M : Type 1} (𝓤 : Ura M) → (Dual → Dual → Dual) → Clauses 𝓤 step_ended
+step_clauses 𝓤 op κs a = record { ghost = Unit {0}; requires = λ _. emp 𝓤; ensures = λ _ r _. fact 𝓤 (r ≡ op a.0 a.1.0) }
 
 -- the function: a run in, one record out
 abbrev pub ended : Ended
@@ -131,10 +131,10 @@ stayed = (stay_none_slice (0 ∷ []) tt (plain (λ _. T.the_row)) yes, tt)
 module _ {M : Type 1} {𝓤 : Ura M} (𝓛 : Logic 𝓤) (op : Dual → Dual → Dual) where
   -- the contract that the proof cites
   abbrev pub Step : Contract 𝓤
-  Step = triple_of 𝓛 step-ended.signature (closing 𝓛 step-ended (step-clauses 𝓤 op))
+  Step = triple_of 𝓛 step_ended.signature (closing 𝓛 step_ended (step_clauses 𝓤 op))
 
-  added_of : (a c r : Dual) → ent 𝓤 (ensured 𝓛 step-ended (step-clauses 𝓤 op) tt (a, (c, tt)) tt r) (fact 𝓤 (r ≡ op a c))
-  added_of a c r = ex_e 𝓤 _ (λ ws. snd∗ 𝓤 (sem 𝓛 (lasts step-ended tt (a, (c, tt)) ws)) (fact 𝓤 (r ≡ op a c)))
+  added_of : (a c r : Dual) → ent 𝓤 (ensured 𝓛 step_ended (step_clauses 𝓤 op) tt (a, (c, tt)) tt r) (fact 𝓤 (r ≡ op a c))
+  added_of a c r = ex_e 𝓤 _ (λ ws. snd∗ 𝓤 (sem 𝓛 (lasts step_ended tt (a, (c, tt)) ws)) (fact 𝓤 (r ≡ op a c)))
 
 module _ {M : Type 1} {𝓤 : Ura M} (𝓛 : Logic 𝓤) (key : Name) (op : Dual → Dual → Dual) (rb eb : ℕ) (κ : Lft) (q : Share) (b o : ℕ) (γ : GName) (ys : List Dual) where
   open 𝓛 use {H}
@@ -164,10 +164,10 @@ module _ {M : Type 1} {𝓤 : Ura M} (𝓛 : Logic 𝓤) (key : Name) (op : Dual
       nothing ! $ move ! (1 ∷ 0 ∷ []) $ join ! $ nothing ! $ move ! (2 ∷ 0 ∷ []) $ fjoin ! $ move ! (1 ∷ 0 ∷ []) $
       frame ! $ frame ! $ owned ! R (Is R) ((LL.makes T.the_type T'.the_plain) 𝓛) r _ is $ done !
 
-  abbrev to-add : Dual → Val → Dual → Val → (Step 𝓛 op).Ghost
-  to-add a v c u = ((tt, tt, tt, (a, (c, tt)), (v ∷ [], (u ∷ [], tt))), tt)
+  abbrev to_add : Dual → Val → Dual → Val → (Step 𝓛 op).Ghost
+  to_add a v c u = ((tt, tt, tt, (a, (c, tt)), (v ∷ [], (u ∷ [], tt))), tt)
 
-  goes_add : (a : Dual) (v : Val) (c : Dual) (u : Val) → ent 𝓤 (sep 𝓤 (sem 𝓛 (R.own_val a (v ∷ []))) (sem 𝓛 (R.own_val c (u ∷ [])))) ((Step 𝓛 op).pre (to-add a v c u))
+  goes_add : (a : Dual) (v : Val) (c : Dual) (u : Val) → ent 𝓤 (sep 𝓤 (sem 𝓛 (R.own_val a (v ∷ []))) (sem 𝓛 (R.own_val c (u ∷ [])))) ((Step 𝓛 op).pre (to_add a v c u))
   goes_add a v c u =
       qed 𝓛 (‵ (R.own_val a (v ∷ [])) ∷ ‵ (R.own_val c (u ∷ [])) ∷ []) ∵ nothing ! $ move ! (2 ∷ 0 ∷ []) $ fjoin ! $ move ! (1 ∷ 0 ∷ []) $ fjoin ! $ nothing ! $ join ! $ nothing ! $ move ! (1 ∷ 0 ∷ []) $ join ! $ done !
 
@@ -225,17 +225,17 @@ module _ {M : Type 1} {𝓤 : Ura M} (𝓛 : Logic 𝓤) (key : Name) (op : Dual
         assigns ! (of_opd ! (load ! (from ! (hop ! (look ! 7 refl) (stop !))) (look_raw ! 0 refl))) (from ! (stop !)) (init ! 8 refl ((LL.lawful T.the_type T'.the_laws 𝓛).typed elem (mach ∷ []) is-e).0) $
         elem_back ! R q' ys i none (mach ∷ []) b o small $
         owned ! R (Is R) ((LL.makes T.the_type T'.the_plain) 𝓛) elem _ is-e $ owned ! R (Is R) ((LL.makes T.the_type T'.the_plain) 𝓛) t _ is-t $
-        use2 𝓛 (raw ((Step 𝓛 op).pre (to-add t v elem mach))) (goes_add t v elem mach) $
+        use2 𝓛 (raw ((Step 𝓛 op).pre (to_add t v elem mach))) (goes_add t v elem mach) $
         -- [what add asks; the row; _2; _3; _4; _5; _6; _7; …]
-        calls_at ! (fm_of 𝓤 H 𝓛.laws 𝓣) (Step 𝓛 op) known (to-add t v elem mach) (and_then ! (load ! (from ! (stop !)) (look ! 2 refl)) (and_then ! (load ! (from ! (stop !)) (look ! 7 refl)) (no_more !))) (λ w.
-        use1 𝓛 (later (some (λ (r : Dual). (‵ ftrue ⊛ ‵ (R.own_val r (w ∷ []))) ⊛ raw (ensured 𝓛 step-ended (step-clauses 𝓤 op) tt (t, (elem, tt)) tt r)))) (id⊢ 𝓤 _) $ await ! tt $ pick ! (λ r.
+        calls_at ! (fm_of 𝓤 H 𝓛.laws 𝓣) (Step 𝓛 op) known (to_add t v elem mach) (and_then ! (load ! (from ! (stop !)) (look ! 2 refl)) (and_then ! (load ! (from ! (stop !)) (look ! 7 refl)) (no_more !))) (λ w.
+        use1 𝓛 (later (some (λ (r : Dual). (‵ ftrue ⊛ ‵ (R.own_val r (w ∷ []))) ⊛ raw (ensured 𝓛 step_ended (step_clauses 𝓤 op) tt (t, (elem, tt)) tt r)))) (id⊢ 𝓤 _) $ await ! tt $ pick ! (λ r.
         split ! $ move ! (1 ∷ []) $ use1 𝓛 (raw (fact 𝓤 (r ≡ op t elem))) (added_of 𝓛 op t elem r) $ heard ! (r ≡ op t elem) (λ e. split ! $ drop ! $
         peeks ! R (Is R) (shows 𝓛 R) r (w ∷ []) (λ is-r. drop ! $
         -- [the row; _2; _3; _4; _5; _6; _7; …]
         land ! (from ! (stop !)) (store ! 1 refl ((LL.lawful T.the_type T'.the_laws 𝓛).typed r (w ∷ []) is-r).0) $
         assigns_last ! (bin ! (load ! (from ! (stop !)) (look ! 2 refl)) (lit ! tt) (record { fits = next_fits })) (from ! (stop !)) (store ! 2 refl (tt, record { fits = next_fits })) $
         forget ! 3 refl $ forget ! 4 refl $ forget ! 5 refl $ forget ! 6 refl $
-        rewrite ! 2 (λ (j : ℕ). ‵ (fat full_share word l₃ 0 (vint w64 j))) (one_more i) refl $ by ! (k r w e is-r))))))
+        rewrite ! 2 (λ (j : ℕ). ‵ (fat full_share word l₃ 0 (vint w64 j))) (one_more_lem i) refl $ by ! (k r w e is-r))))))
       where
         elem : Dual
         elem = get_or ys i none
@@ -247,7 +247,7 @@ module _ {M : Type 1} {𝓤 : Ura M} (𝓛 : Logic 𝓤) (key : Name) (op : Dual
         offset = scaled_Fits i n 16 small g.1
 
         next_fits : i + 1 < 2 ^ 64
-        next_fits = subst (λ (j : ℕ). j < 2 ^ 64) (sym (one_more i)) (lt_of_le_of_lt small g.0)
+        next_fits = subst (λ (j : ℕ). j < 2 ^ 64) (sym (one_more_lem i)) (lt_of_le_of_lt small g.0)
 
     -- the turn that leaves the loop, and the rest of the body: the slice is shut
     ends : (t : Dual) (v : Val) (X : SProp 𝓤) → Is R t (v ∷ []) → t ≡ joined op start ys → ent 𝓤 (⋆ 𝓛 (At n v)) (Wp 𝓤 H C Λ En (turn key) (after_turn 𝓤 H X Left))
@@ -319,9 +319,9 @@ module _ (key : Name) (op : Dual → Dual → Dual) (rb eb : ℕ) (small_r : T (
   abbrev from_bits : Dual
   from_bits = record { re = of_bits binary64 rb; eps = of_bits binary64 eb }
 
-  fold-walks : Walks 𝓛 ended stayed (WpFn 𝓤 H 𝓣.C 𝓣.Λ (function key rb eb)) (clauses 𝓤 op from_bits)
-  fold-walks = walked 𝓛 ended stayed (clauses 𝓤 op from_bits) (WpFn 𝓤 H 𝓣.C 𝓣.Λ (function key rb eb)) (λ κs. (shr_slice_vals, tt)) (λ κs. (shr_slice_Tells (named 0) κs.0 R, tt))
+  fold_walks : Walks 𝓛 ended stayed (WpFn 𝓤 H 𝓣.C 𝓣.Λ (function key rb eb)) (clauses 𝓤 op from_bits)
+  fold_walks = walked 𝓛 ended stayed (clauses 𝓤 op from_bits) (WpFn 𝓤 H 𝓣.C 𝓣.Λ (function key rb eb)) (λ κs. (shr_slice_vals, tt)) (λ κs. (shr_slice_Tells (named 0) κs.0 R, tt))
       (λ κs qs bounds a _ are. via 𝓤 _ (fst∗ 𝓤 _ (emp 𝓤)) (walk 𝓛 key op rb eb κs.0 qs.0 a.0.ref_ptr.0 a.0.ref_ptr.1 0 a.0.now small_r small-e 𝓣 known are.0.0.1))
 
-  pub fold-meets : Meets 𝓛 ended.signature (WpFn 𝓤 H 𝓣.C 𝓣.Λ (function key rb eb)) (closing 𝓛 ended (clauses 𝓤 op from_bits))
-  fold-meets = walk_Meets 𝓛 ended stayed (Goes-none_slice 𝓛 1 (0 ∷ []) tt (plain (λ _. T.the_row)) yes, tt) (clauses 𝓤 op from_bits) (WpFn 𝓤 H 𝓣.C 𝓣.Λ (function key rb eb)) (WpFn-mono 𝓤 H 𝓛.laws 𝓣 (function key rb eb)) fold-walks
+  pub fold_meets : Meets 𝓛 ended.signature (WpFn 𝓤 H 𝓣.C 𝓣.Λ (function key rb eb)) (closing 𝓛 ended (clauses 𝓤 op from_bits))
+  fold_meets = walk_Meets 𝓛 ended stayed (Goes-none_slice 𝓛 1 (0 ∷ []) tt (plain (λ _. T.the_row)) yes, tt) (clauses 𝓤 op from_bits) (WpFn 𝓤 H 𝓣.C 𝓣.Λ (function key rb eb)) (WpFn-mono 𝓤 H 𝓛.laws 𝓣 (function key rb eb)) fold_walks

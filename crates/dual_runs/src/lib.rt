@@ -1,14 +1,14 @@
 // The sum and the product of a lent run of `Dual` records: document 01's two thin functions over `&[Dual]`, beside those over flat floats.
 ghost use Rattle.std.specs.Prelude.{◌≡◌};
 ghost use Rattle.algebra.specs.Algebra.{zero_of, one_of};
-ghost use Rattle.dual.specs.Rules.{dualAdd, dualMul, dualAlgebra};
+ghost use Rattle.dual.specs.Rules.{dual_add, dual_mul, dual_algebra};
 ghost use Rattle.dual_runs.specs.Runs.{joined};
 
 use dual::Dual;
 
 // From zero, left to right.
 pub fn sum(records: &[Dual]) -> Dual
-    ensures { result ≡ joined dualAdd (zero_of dualAlgebra) records.now }
+    ensures { result ≡ joined dual_add (zero_of dual_algebra) records.now }
 {
     let mut acc = Dual { re: 0.0, eps: 0.0 };
     let mut i = 0usize;
@@ -21,7 +21,7 @@ pub fn sum(records: &[Dual]) -> Dual
 
 // From one, left to right.
 pub fn product(records: &[Dual]) -> Dual
-    ensures { result ≡ joined dualMul (one_of dualAlgebra) records.now }
+    ensures { result ≡ joined dual_mul (one_of dual_algebra) records.now }
 {
     let mut acc = Dual { re: 1.0, eps: 0.0 };
     let mut i = 0usize;

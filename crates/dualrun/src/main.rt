@@ -2,11 +2,11 @@
 // gives what its first 65,536 bytes give. A text that its first line decides is read no further (crates/dualrun_text/proofs/LineDecides.antt).
 ghost use Rattle.std.specs.Prelude.{◌≤◌, length};
 ghost use Rattle.io.specs.Counts.{IsPrefixLen};
-ghost use Rattle.dualrun_text.specs.Request.{longestLine};
+ghost use Rattle.dualrun_text.specs.Request.{longest_line};
 
 // Reads byte by byte until the text is decided or longer than any first line, then the rest: how many bytes of the buffer were read.
 fn read_text(text: &mut [u8]) -> usize
-    requires { longestLine ≤ length text.old }
+    requires { longest_line ≤ length text.old }
     ensures { IsPrefixLen result text.new }
 {
     let mut read = 0;

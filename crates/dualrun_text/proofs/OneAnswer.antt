@@ -14,5 +14,5 @@ run_only κs a x y v w h p q =
       λ i. at_exit (ended_of 2 run.Kinds.ps run.Kinds.r) κs a (v.0, (ap (λ (l : Page). l.bytes) e i, tt)),
     )
 
-pub decided-only : Only 1 decided.Kinds.ps decided.Kinds.r decided.Reads.Pre decided.Reads.Post
-decided-only κs a x y v w h p q = (p ∙ sym q, refl)
+pub decided_only : Only 1 decided.Kinds.ps decided.Kinds.r decided.Reads.Pre decided.Reads.Post
+decided_only κs a x y v w h p q = (p ∙ sym q, refl)

@@ -12,162 +12,162 @@ use borrow.Author.Tests.{ltb-true, ltb-false, eqb-true}
 use Rattle.real.specs.Operations as float
 use Rattle.refusals.specs.Number as refusal
 use Rattle.algebra.specs.Outcome.{Outcome, value, refused}
-use Rattle.dual.specs.Rules.{dualAlgebra, dualLayout}
-use Rattle.matrices.specs.Entries.{LuLeft, luLeft}
-use Rattle.jacobi.specs.Entry.{JacobiLeft, jacobiLeft}
+use Rattle.dual.specs.Rules.{dual_algebra, dual_layout}
+use Rattle.matrices.specs.Entries.{LuLeft, lu_left}
+use Rattle.jacobi.specs.Entry.{JacobiLeft, jacobi_left}
 use Rattle.texts.specs.Bytes.{space}
-use Rattle.texts.specs.Numbers.{decimalText}
+use Rattle.texts.specs.Numbers.{decimal_text}
 use Rattle.texts.specs.Page.{page, written}
-use Rattle.texts.proofs.Page.{written-fits}
-use Rattle.texts.proofs.Decimals.{length-decimal, length-hex}
+use Rattle.texts.proofs.Page.{written_fits}
+use Rattle.texts.proofs.Decimals.{length_decimal, length_hex}
 use Rattle.dualrun_text.specs.declared.Request.{Request}
 use Rattle.dualrun_text.specs.declared.Request.TheVariants.{Lu, Eig, Unreadable}
-use Rattle.dualrun_text.specs.Request.{longestLine, requestOf, luLineRefusal, eigLineRefusal}
-use Rattle.dualrun_text.specs.Body.{Fits, isBody, floatsFrom}
-use Rattle.dualrun_text.specs.Lines.{wordText, refusalLine, pairLine, recordLine, recordLines, entryText, entries, orderLine}
-use Rattle.dualrun_text.specs.Output.{luLines, luPrinted, eigLines, eigPrinted, luOfLines, eigOfLines, luOutput, eigOutput, outputFor, outputOf, unreadable, unlessRefused}
-use Rattle.dualrun_text.proofs.Commands.{fits, unless-same, lu-few, eig-few}
-use Rattle.dualrun_text.proofs.Words.{body-other-length}
-use Rattle.dualrun_text.proofs.FirstBytes.{request-same, start_of, start_small}
+use Rattle.dualrun_text.specs.Request.{longest_line, request_of, lu_line_refusal, eig_line_refusal}
+use Rattle.dualrun_text.specs.Body.{Fits, is_body, floats_from}
+use Rattle.dualrun_text.specs.Lines.{word_text, refusal_line, pair_line, record_line, record_lines, entry_text, entries, order_line}
+use Rattle.dualrun_text.specs.Output.{lu_lines, lu_printed, eig_lines, eig_printed, lu_of_lines, eig_of_lines, lu_output, eig_output, output_for, output_of, unreadable, unless_refused}
+use Rattle.dualrun_text.proofs.Commands.{fits, unless_same, lu_few, eig_few}
+use Rattle.dualrun_text.proofs.Words.{body_other_length}
+use Rattle.dualrun_text.proofs.FirstBytes.{request_same, start_of, start_small}
 
 -- as many bytes are read and written: more than any text of the largest matrix has
-abbrev pub mostBytes : ℕ
-mostBytes = 65536
+abbrev pub most_bytes : ℕ
+most_bytes = 65536
 
 -- ---- a text gives what its first 65,536 bytes give
 
 -- longer than any matrix: no lines of a matrix
-module _ (text : List ℕ) (n start : ℕ) (long : mostBytes ≤ length text) (small : Fits n) (early : start ≤ longestLine) where
-  no_body : isBody text start (n * n * 2) ≡ false
-  no_body = let q = small.square in sym (body-other-length text start (n * n * 2) (λ e. omega arith))
+module _ (text : List ℕ) (n start : ℕ) (long : most_bytes ≤ length text) (small : Fits n) (early : start ≤ longest_line) where
+  no_body : is_body text start (n * n * 2) ≡ false
+  no_body = let q = small.square in sym (body_other_length text start (n * n * 2) (λ e. omega arith))
 
-  pub lu-long : (factors : List Float) (order : List ℕ) → luOfLines text n start factors order ≡ unreadable
-  unfolding luOfLines
-  lu-long factors order = rw no_body
+  pub lu_long : (factors : List Float) (order : List ℕ) → lu_of_lines text n start factors order ≡ unreadable
+  unfolding lu_of_lines
+  lu_long factors order = rw no_body
 
-  pub eig-long : (limit : ℕ) (values vectors : List Float) → eigOfLines text n limit start values vectors ≡ unreadable
-  unfolding eigOfLines
-  eig-long limit values vectors = rw no_body
+  pub eig_long : (limit : ℕ) (values vectors : List Float) → eig_of_lines text n limit start values vectors ≡ unreadable
+  unfolding eig_of_lines
+  eig_long limit values vectors = rw no_body
 
-module _ (s t : List ℕ) (ls : mostBytes ≤ length s) (lt : mostBytes ≤ length t) where
-  lu-same : (n start : ℕ) → start ≤ longestLine → luOutput s n start ≡ luOutput t n start
-  unfolding luOutput
-  lu-same n start h = unless-same (luLineRefusal n) _ _ (λ z. let f = fits n (lu-few n z) in lu-long s n start ls f h _ _ ∙ sym (lu-long t n start lt f h _ _))
+module _ (s t : List ℕ) (ls : most_bytes ≤ length s) (lt : most_bytes ≤ length t) where
+  lu_same : (n start : ℕ) → start ≤ longest_line → lu_output s n start ≡ lu_output t n start
+  unfolding lu_output
+  lu_same n start h = unless_same (lu_line_refusal n) _ _ (λ z. let f = fits n (lu_few n z) in lu_long s n start ls f h _ _ ∙ sym (lu_long t n start lt f h _ _))
 
-  eig-same : (n limit start : ℕ) → start ≤ longestLine → eigOutput s n limit start ≡ eigOutput t n limit start
-  unfolding eigOutput
-  eig-same n limit start h = unless-same (eigLineRefusal n limit) _ _ (λ z. let f = fits n (eig-few n limit z) in eig-long s n start ls f h limit _ _ ∙ sym (eig-long t n start lt f h limit _ _))
+  eig_same : (n limit start : ℕ) → start ≤ longest_line → eig_output s n limit start ≡ eig_output t n limit start
+  unfolding eig_output
+  eig_same n limit start h = unless_same (eig_line_refusal n limit) _ _ (λ z. let f = fits n (eig_few n limit z) in eig_long s n start ls f h limit _ _ ∙ sym (eig_long t n start lt f h limit _ _))
 
-  output-same : (r : Request) → start_of r ≤ longestLine → outputFor s r ≡ outputFor t r
-  output-same (Lu n start) h = lu-same n start h
-  output-same (Eig n limit start) h = eig-same n limit start h
-  output-same Unreadable h = refl
+  output_same : (r : Request) → start_of r ≤ longest_line → output_for s r ≡ output_for t r
+  output_same (Lu n start) h = lu_same n start h
+  output_same (Eig n limit start) h = eig_same n limit start h
+  output_same Unreadable h = refl
 
-pub read_whole : (text : List ℕ) → outputOf (take mostBytes text) ≡ outputOf text
-unfolding outputOf
-read_whole text = by (ltb mostBytes (length text)) refl
+pub read_whole : (text : List ℕ) → output_of (take most_bytes text) ≡ output_of text
+unfolding output_of
+read_whole text = by (ltb most_bytes (length text)) refl
   where
-    by : (b : Bool) → ltb mostBytes (length text) ≡ b → outputFor (take mostBytes text) (requestOf (take mostBytes text)) ≡ outputFor text (requestOf text)
-    by false e = ap (λ (t : List ℕ). outputFor t (requestOf t)) (take_all mostBytes text (ltb-false mostBytes (length text) e))
+    by : (b : Bool) → ltb most_bytes (length text) ≡ b → output_for (take most_bytes text) (request_of (take most_bytes text)) ≡ output_for text (request_of text)
+    by false e = ap (λ (t : List ℕ). output_for t (request_of t)) (take_all most_bytes text (ltb-false most_bytes (length text) e))
     by true e =
-        let long : mostBytes < length text = ltb-true mostBytes (length text) e in
-        let cut : length (take mostBytes text) ≡ mostBytes = length-take-le mostBytes text (omega arith) in
-        ap (outputFor (take mostBytes text)) (request-same (take mostBytes text) text (λ i h c. get_or-take mostBytes text i 0 (omega arith)))
-        ∙ output-same (take mostBytes text) text (omega arith) (omega arith) (requestOf text) (start_small text)
+        let long : most_bytes < length text = ltb-true most_bytes (length text) e in
+        let cut : length (take most_bytes text) ≡ most_bytes = length-take-le most_bytes text (omega arith) in
+        ap (output_for (take most_bytes text)) (request_same (take most_bytes text) text (λ i h c. get_or-take most_bytes text i 0 (omega arith)))
+        ∙ output_same (take most_bytes text) text (omega arith) (omega arith) (request_of text) (start_small text)
 
 -- ---- no output is longer than 65,536 bytes
-length-word : (x : Float) → length (wordText x) ≡ 16
-unfolding wordText
-length-word x = length-hex (to_bits binary64 x)
+length_word : (x : Float) → length (word_text x) ≡ 16
+unfolding word_text
+length_word x = length_hex (to_bits binary64 x)
 
-length-refusal : (n : ℕ) → length (refusalLine n) ≤ 21
-unfolding refusalLine
-length-refusal n = simp length-append (omega (arith, length-decimal n))
+length_refusal : (n : ℕ) → length (refusal_line n) ≤ 21
+unfolding refusal_line
+length_refusal n = simp length-append (omega (arith, length_decimal n))
 
-length-pair : (a b : ℕ) → length (pairLine a b) ≤ 42
-unfolding pairLine
-length-pair a b = simp length-append (omega (arith, length-decimal a, length-decimal b))
+length_pair : (a b : ℕ) → length (pair_line a b) ≤ 42
+unfolding pair_line
+length_pair a b = simp length-append (omega (arith, length_decimal a, length_decimal b))
 
-length-record : (re eps : Float) → length (recordLine re eps) ≡ 34
-unfolding recordLine
-length-record re eps = simp length-append (omega (arith, length-word re, length-word eps))
+length_record : (re eps : Float) → length (record_line re eps) ≡ 34
+unfolding record_line
+length_record re eps = simp length-append (omega (arith, length_word re, length_word eps))
 
-length-records : (l : List Float) (k : ℕ) → length (recordLines l k) ≡ 34 * k
-unfolding recordLines
-length-records l zero = refl
-length-records l (suc k) =
-    simp length-append (omega (arith, length-records l k, length-record (get_or l (2 * k) float.zero) (get_or l (2 * k + 1) float.zero)))
+length_records : (l : List Float) (k : ℕ) → length (record_lines l k) ≡ 34 * k
+unfolding record_lines
+length_records l zero = refl
+length_records l (suc k) =
+    simp length-append (omega (arith, length_records l k, length_record (get_or l (2 * k) float.zero) (get_or l (2 * k + 1) float.zero)))
 
-length-entry : (i x : ℕ) → length (entryText i x) ≤ 21
-length-entry i x = by (eqb i 0)
+length_entry : (i x : ℕ) → length (entry_text i x) ≤ 21
+length_entry i x = by (eqb i 0)
   where
-    by : (b : Bool) → length (cond b (decimalText x) ((space ∷ []) ++ decimalText x)) ≤ 21
-    by true = omega (arith, length-decimal x)
-    by false = omega (arith, length-decimal x)
+    by : (b : Bool) → length (cond b (decimal_text x) ((space ∷ []) ++ decimal_text x)) ≤ 21
+    by true = omega (arith, length_decimal x)
+    by false = omega (arith, length_decimal x)
 
-length-entries : (l : List ℕ) (k : ℕ) → length (entries l k) ≤ 21 * k
+length_entries : (l : List ℕ) (k : ℕ) → length (entries l k) ≤ 21 * k
 unfolding entries
-length-entries l zero = omega arith
-length-entries l (suc k) = simp length-append (omega (arith, length-entries l k, length-entry k (get_or l k 0)))
+length_entries l zero = omega arith
+length_entries l (suc k) = simp length-append (omega (arith, length_entries l k, length_entry k (get_or l k 0)))
 
-length-order : (l : List ℕ) (n : ℕ) → length (orderLine l n) ≤ 21 * n + 1
-unfolding orderLine
-length-order l n = simp length-append (omega (arith, length-entries l n))
+length_order : (l : List ℕ) (n : ℕ) → length (order_line l n) ≤ 21 * n + 1
+unfolding order_line
+length_order l n = simp length-append (omega (arith, length_entries l n))
 
-lu-lines-most : (n : ℕ) (r : Outcome ℕ) (column : ℕ) (factors : List Float) (order : List ℕ) → Fits n → length (luLines n r column factors order) ≤ mostBytes
-lu-lines-most n (value swaps) column factors order h = simp length-append (omega (arith, h.square, h.few, length-pair 0 swaps, length-order order n, length-records factors (n * n)))
-lu-lines-most n (refused number) column factors order h = omega (arith, length-pair number column)
+lu_lines_most : (n : ℕ) (r : Outcome ℕ) (column : ℕ) (factors : List Float) (order : List ℕ) → Fits n → length (lu_lines n r column factors order) ≤ most_bytes
+lu_lines_most n (value swaps) column factors order h = simp length-append (omega (arith, h.square, h.few, length_pair 0 swaps, length_order order n, length_records factors (n * n)))
+lu_lines_most n (refused number) column factors order h = omega (arith, length_pair number column)
 
-eig-lines-most : (n : ℕ) (r : Outcome ℕ) (values vectors : List Float) → Fits n → length (eigLines n r values vectors) ≤ mostBytes
-eig-lines-most n (value sweeps) values vectors h = simp length-append (omega (arith, h.square, h.few, length-pair 0 sweeps, length-records values n, length-records vectors (n * n)))
-eig-lines-most n (refused number) values vectors h = omega (arith, length-pair number 0)
+eig_lines_most : (n : ℕ) (r : Outcome ℕ) (values vectors : List Float) → Fits n → length (eig_lines n r values vectors) ≤ most_bytes
+eig_lines_most n (value sweeps) values vectors h = simp length-append (omega (arith, h.square, h.few, length_pair 0 sweeps, length_records values n, length_records vectors (n * n)))
+eig_lines_most n (refused number) values vectors h = omega (arith, length_pair number 0)
 
 -- the longer of two is short enough
-either : (b : Bool) (x y : List ℕ) → length x ≤ mostBytes → length y ≤ mostBytes → length (cond b x y) ≤ mostBytes
+either : (b : Bool) (x y : List ℕ) → length x ≤ most_bytes → length y ≤ most_bytes → length (cond b x y) ≤ most_bytes
 either true x y h g = h
 either false x y h g = g
 
 -- what is printed unless the first line is refused
-unless-most : (k : ℕ) (x : List ℕ) → (k ≡ 0 → length x ≤ mostBytes) → length (unlessRefused k x) ≤ mostBytes
-unless-most k x h = by (eqb k 0) refl
+unless_most : (k : ℕ) (x : List ℕ) → (k ≡ 0 → length x ≤ most_bytes) → length (unless_refused k x) ≤ most_bytes
+unless_most k x h = by (eqb k 0) refl
   where
-    by : (b : Bool) → eqb k 0 ≡ b → length (cond b x (pairLine k 0)) ≤ mostBytes
+    by : (b : Bool) → eqb k 0 ≡ b → length (cond b x (pair_line k 0)) ≤ most_bytes
     by true e = h (eqb-true k 0 e)
-    by false e = omega (arith, length-pair k 0)
+    by false e = omega (arith, length_pair k 0)
 
-lu-printed-most : (n : ℕ) (left : LuLeft) → Fits n → length (luPrinted n left) ≤ mostBytes
-lu-printed-most n left h = lu-lines-most n left.answer left.column left.factors left.order h
+lu_printed_most : (n : ℕ) (left : LuLeft) → Fits n → length (lu_printed n left) ≤ most_bytes
+lu_printed_most n left h = lu_lines_most n left.answer left.column left.factors left.order h
 
-eig-printed-most : (n : ℕ) (left : JacobiLeft) → Fits n → length (eigPrinted n left) ≤ mostBytes
-eig-printed-most n left h = eig-lines-most n left.answer left.values left.vectors h
+eig_printed_most : (n : ℕ) (left : JacobiLeft) → Fits n → length (eig_printed n left) ≤ most_bytes
+eig_printed_most n left h = eig_lines_most n left.answer left.values left.vectors h
 
-lu-most : (text : List ℕ) (n start : ℕ) → length (luOutput text n start) ≤ mostBytes
-unfolding luOutput luOfLines
-lu-most text n start =
-    unless-most (luLineRefusal n) _
-    (λ e. either (isBody text start (n * n * 2)) _ unreadable (lu-printed-most n (luLeft dualAlgebra dualLayout n (floatsFrom text start (n * n * 2)) (replicate (n * n * 2) float.zero) (replicate n 0)) (fits n (lu-few n e))) (omega (arith, length-refusal refusal.unreadable)))
+lu_most : (text : List ℕ) (n start : ℕ) → length (lu_output text n start) ≤ most_bytes
+unfolding lu_output lu_of_lines
+lu_most text n start =
+    unless_most (lu_line_refusal n) _
+    (λ e. either (is_body text start (n * n * 2)) _ unreadable (lu_printed_most n (lu_left dual_algebra dual_layout n (floats_from text start (n * n * 2)) (replicate (n * n * 2) float.zero) (replicate n 0)) (fits n (lu_few n e))) (omega (arith, length_refusal refusal.unreadable)))
 
-eig-most : (text : List ℕ) (n limit start : ℕ) → length (eigOutput text n limit start) ≤ mostBytes
-unfolding eigOutput eigOfLines
-eig-most text n limit start =
-    unless-most (eigLineRefusal n limit) _
-    (λ e. either (isBody text start (n * n * 2)) _ unreadable (eig-printed-most n (jacobiLeft dualAlgebra dualLayout n (floatsFrom text start (n * n * 2)) limit (replicate (n * 2) float.zero) (replicate (n * n * 2) float.zero)) (fits n (eig-few n limit e))) (omega (arith, length-refusal refusal.unreadable)))
+eig_most : (text : List ℕ) (n limit start : ℕ) → length (eig_output text n limit start) ≤ most_bytes
+unfolding eig_output eig_of_lines
+eig_most text n limit start =
+    unless_most (eig_line_refusal n limit) _
+    (λ e. either (is_body text start (n * n * 2)) _ unreadable (eig_printed_most n (jacobi_left dual_algebra dual_layout n (floats_from text start (n * n * 2)) limit (replicate (n * 2) float.zero) (replicate (n * n * 2) float.zero)) (fits n (eig_few n limit e))) (omega (arith, length_refusal refusal.unreadable)))
 
-output-most : (text : List ℕ) (r : Request) → length (outputFor text r) ≤ mostBytes
-output-most text (Lu n start) = lu-most text n start
-output-most text (Eig n limit start) = eig-most text n limit start
-output-most text Unreadable = omega (arith, length-refusal refusal.unreadable)
+output_most : (text : List ℕ) (r : Request) → length (output_for text r) ≤ most_bytes
+output_most text (Lu n start) = lu_most text n start
+output_most text (Eig n limit start) = eig_most text n limit start
+output_most text Unreadable = omega (arith, length_refusal refusal.unreadable)
 
-pub written-whole : (text : List ℕ) → length (outputOf text) ≤ mostBytes
-unfolding outputOf
-written-whole text = output-most text (requestOf text)
+pub written_whole : (text : List ℕ) → length (output_of text) ≤ most_bytes
+unfolding output_of
+written_whole text = output_most text (request_of text)
 
 -- so a buffer of 65,536 bytes or more begins with the whole output and stays as it was behind it
-pub whole-output : (text out : List ℕ) → mostBytes ≤ length out → written (page out 0) (outputOf text) ≡ page (outputOf text ++ drop (length (outputOf text)) out) (length (outputOf text))
-whole-output text out h =
-    let o = outputOf text in
+pub whole_output : (text out : List ℕ) → most_bytes ≤ length out → written (page out 0) (output_of text) ≡ page (output_of text ++ drop (length (output_of text)) out) (length (output_of text))
+whole_output text out h =
+    let o = output_of text in
     let none : 0 + length o ≡ length o = omega arith in
-    let room : 0 + length o ≤ length out = omega (arith, written-whole text) in
-    written-fits out 0 o room
+    let room : 0 + length o ≤ length out = omega (arith, written_whole text) in
+    written_fits out 0 o room
     ∙ (λ i. page (sets-eq o out 0 room i) (none i))
     ∙ ap (λ (k : ℕ). page (o ++ drop k out) (length o)) none

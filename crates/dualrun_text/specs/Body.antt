@@ -5,14 +5,14 @@ use Rattle.std.specs.Float.{binary64}
 use Rattle.std.specs.Float.Ieee.{of_bits}
 use Rattle.refusals.specs.Largest as largest
 use Rattle.texts.specs.Bytes.{newline, space}
-use Rattle.texts.specs.Digits.{byte_at, every, digitRun, number_at}
+use Rattle.texts.specs.Digits.{byte_at, every, digit_run, number_at}
 use Rattle.algebra.specs.Flat.{tabulate}
 use Rattle.dualrun_text.specs.declared.Word.{Word}
 use Rattle.dualrun_text.specs.declared.Word.TheVariants.{Is, Not}
 
 -- the digits of a word, and its bytes with the one after it
-abbrev pub wordDigits : ℕ
-wordDigits = 16
+abbrev pub word_digits : ℕ
+word_digits = 16
 
 abbrev pub word_bytes : ℕ
 word_bytes = 17
@@ -23,33 +23,33 @@ pub record Fits (n : ℕ) : Type 0 where
   pub square : n * n ≤ largest.n * largest.n
 
 -- the floats of the largest matrix
-abbrev pub mostFloats : ℕ
-mostFloats = largest.n * largest.n * 2
+abbrev pub most_floats : ℕ
+most_floats = largest.n * largest.n * 2
 
 -- the byte after word number i: a space after the first word of a line, a newline after the second
-abbrev pub separatorOf : ℕ → ℕ
-separatorOf i = cond (eqb (i % 2) 0) space newline
+abbrev pub separator_of : ℕ → ℕ
+separator_of i = cond (eqb (i % 2) 0) space newline
 
 -- word number i is 16 digits and the byte that is wanted after it
-unfoldable pub isWord : List ℕ → ℕ → ℕ → Bool
-isWord text start i = eqb (digitRun 16 wordDigits text (start + word_bytes * i)) wordDigits && eqb (byte_at text (start + word_bytes * i + wordDigits)) (separatorOf i)
+unfoldable pub is_word : List ℕ → ℕ → ℕ → Bool
+is_word text start i = eqb (digit_run 16 word_digits text (start + word_bytes * i)) word_digits && eqb (byte_at text (start + word_bytes * i + word_digits)) (separator_of i)
 
 -- what its digits spell
 unfoldable pub word_of : List ℕ → ℕ → ℕ → ℕ
-word_of text start i = number_at 16 text (start + word_bytes * i) wordDigits
+word_of text start i = number_at 16 text (start + word_bytes * i) word_digits
 
 -- word number i, if it is one
 abbrev pub word_at : List ℕ → ℕ → ℕ → Word
-word_at text start i = cond (isWord text start i) (Is (word_of text start i)) Not
+word_at text start i = cond (is_word text start i) (Is (word_of text start i)) Not
 
 -- from start on the text is so many words in such lines, and nothing after
-unfoldable pub isBody : List ℕ → ℕ → ℕ → Bool
-isBody text start count = eqb (length text) (start + word_bytes * count) && every (isWord text start) count
+unfoldable pub is_body : List ℕ → ℕ → ℕ → Bool
+is_body text start count = eqb (length text) (start + word_bytes * count) && every (is_word text start) count
 
 -- the float of word number i: every NaN pattern is the one NaN
 abbrev pub float_at : List ℕ → ℕ → ℕ → Float
 float_at text start i = of_bits binary64 (word_of text start i)
 
 -- the floats of so many words
-unfoldable pub floatsFrom : List ℕ → ℕ → ℕ → List Float
-floatsFrom text start count = tabulate (float_at text start) count 0
+unfoldable pub floats_from : List ℕ → ℕ → ℕ → List Float
+floats_from text start count = tabulate (float_at text start) count 0

@@ -6,17 +6,17 @@ use Rattle.texts.specs.declared.Number.{Number}
 use Rattle.texts.specs.declared.Number.TheVariants.{Is, Not}
 use Rattle.texts.specs.Bytes.{newline, space}
 use Rattle.texts.specs.Digits.{byte_at, starts_with}
-use Rattle.texts.specs.Numbers.{numberFrom}
+use Rattle.texts.specs.Numbers.{number_from}
 use Rattle.dualrun_text.specs.declared.Request.{Request}
 use Rattle.dualrun_text.specs.declared.Request.TheVariants.{Lu, Eig, Unreadable}
 
 -- the most digits of N and of S
-abbrev pub numberDigits : ℕ
-numberDigits = 9
+abbrev pub number_digits : ℕ
+number_digits = 9
 
 -- the bytes of the longest first line that can be read: `eig 999999999 999999999` and a newline
-abbrev pub longestLine : ℕ
-longestLine = 24
+abbrev pub longest_line : ℕ
+longest_line = 24
 
 -- what f makes of the number and of the place after the byte that is wanted behind it
 abbrev pub after : List ℕ → ℕ → (ℕ → ℕ → Request) → Number → Request
@@ -24,43 +24,43 @@ after text wanted f (Is value end) = cond (eqb (byte_at text end) wanted) (f val
 after text wanted f Not = Unreadable
 
 -- a number from p on, the byte wanted behind it, and so on by f
-unfoldable pub numberThen : List ℕ → ℕ → ℕ → (ℕ → ℕ → Request) → Request
-numberThen text p wanted f = after text wanted f (numberFrom numberDigits text p)
+unfoldable pub number_then : List ℕ → ℕ → ℕ → (ℕ → ℕ → Request) → Request
+number_then text p wanted f = after text wanted f (number_from number_digits text p)
 
 -- "lu "
-abbrev pub luWord : List ℕ
-luWord = 108 ∷ 117 ∷ space ∷ []
+abbrev pub lu_word : List ℕ
+lu_word = 108 ∷ 117 ∷ space ∷ []
 
 -- "eig "
-abbrev pub eigWord : List ℕ
-eigWord = 101 ∷ 105 ∷ 103 ∷ space ∷ []
+abbrev pub eig_word : List ℕ
+eig_word = 101 ∷ 105 ∷ 103 ∷ space ∷ []
 
 -- N and the newline: the matrix starts after it
-abbrev pub luLine : List ℕ → Request
-luLine text = numberThen text (length luWord) newline Lu
+abbrev pub lu_line : List ℕ → Request
+lu_line text = number_then text (length lu_word) newline Lu
 
 -- S and the newline, after N
-abbrev pub limitLine : List ℕ → ℕ → ℕ → Request
-limitLine text n p = numberThen text p newline (Eig n)
+abbrev pub limit_line : List ℕ → ℕ → ℕ → Request
+limit_line text n p = number_then text p newline (Eig n)
 
 -- N and a space, then S
-abbrev pub eigLine : List ℕ → Request
-eigLine text = numberThen text (length eigWord) space (limitLine text)
+abbrev pub eig_line : List ℕ → Request
+eig_line text = number_then text (length eig_word) space (limit_line text)
 
 -- what a first line asks
-unfoldable pub requestOf : List ℕ → Request
-requestOf text = cond (starts_with luWord text) (luLine text) (cond (starts_with eigWord text) (eigLine text) Unreadable)
+unfoldable pub request_of : List ℕ → Request
+request_of text = cond (starts_with lu_word text) (lu_line text) (cond (starts_with eig_word text) (eig_line text) Unreadable)
 
 -- `lu N` by its first line alone: refused where N is too large, 0 where it is not refused
-abbrev pub luLineRefusal : ℕ → ℕ
-luLineRefusal n = cond (ltb largest.n n) refusal.tooLarge 0
+abbrev pub lu_line_refusal : ℕ → ℕ
+lu_line_refusal n = cond (ltb largest.n n) refusal.too_large 0
 
 -- `eig N S`: refused where N is too large, where it is 0, where S is too large, in this order
-abbrev pub eigLineRefusal : ℕ → ℕ → ℕ
-eigLineRefusal n limit = cond (ltb largest.n n) refusal.tooLarge (cond (eqb n 0) refusal.empty (cond (ltb largest.limit limit) refusal.limitTooLarge 0))
+abbrev pub eig_line_refusal : ℕ → ℕ → ℕ
+eig_line_refusal n limit = cond (ltb largest.n n) refusal.too_large (cond (eqb n 0) refusal.empty (cond (ltb largest.limit limit) refusal.limit_too_large 0))
 
 -- any request: refused too where its first line cannot be read
-abbrev pub lineRefusal : Request → ℕ
-lineRefusal (Lu n start) = luLineRefusal n
-lineRefusal (Eig n limit start) = eigLineRefusal n limit
-lineRefusal Unreadable = refusal.unreadable
+abbrev pub line_refusal : Request → ℕ
+line_refusal (Lu n start) = lu_line_refusal n
+line_refusal (Eig n limit start) = eig_line_refusal n limit
+line_refusal Unreadable = refusal.unreadable

@@ -1,10 +1,10 @@
 // `eig N S`: the matrix read, its eigenvalues and vectors printed.
 ghost use Rattle.std.specs.Prelude.{◌≡◌, ◌*◌, ◌≤◌, length};
 ghost use Rattle.jacobi.specs.Answer.{outcome};
-ghost use Rattle.dualrun_text.specs.Request.{longestLine, eigLineRefusal};
+ghost use Rattle.dualrun_text.specs.Request.{longest_line, eig_line_refusal};
 ghost use Rattle.dualrun_text.specs.Body.{Fits};
 ghost use Rattle.texts.specs.Page.{page, written};
-ghost use Rattle.dualrun_text.specs.Output.{eigLines, eigOfLines, eigInRoom, eigOutput};
+ghost use Rattle.dualrun_text.specs.Output.{eig_lines, eig_of_lines, eig_in_room, eig_output};
 
 use super::{read, write};
 use jacobi::JacobiAnswer;
@@ -12,7 +12,7 @@ use jacobi::JacobiAnswer;
 // What is printed of an answer: the sweeps, the eigenvalues and the vectors, or the number of a refusal and 0.
 fn lines(out: &mut [u8], n: usize, answer: JacobiAnswer, values: &[f64], vectors: &[f64]) -> usize
     requires { Fits n × (length values.now ≡ n * 2) × (length vectors.now ≡ n * n * 2) }
-    ensures { page out.new result ≡ written (page out.old 0) (eigLines n (outcome answer) values.now vectors.now) }
+    ensures { page out.new result ≡ written (page out.old 0) (eig_lines n (outcome answer) values.now vectors.now) }
 {
     let JacobiAnswer::Done { sweeps } = answer else {
         return write::pair(out, 0, answer.number() as usize, 0);
@@ -33,8 +33,8 @@ fn of_lines(
     values: &mut [f64],
     vectors: &mut [f64],
 ) -> usize
-    requires { (start ≤ longestLine) × Fits n × (length matrix.old ≡ n * n * 2) × (length values.old ≡ n * 2) × (length vectors.old ≡ n * n * 2) }
-    ensures { page out.new result ≡ written (page out.old 0) (eigOfLines text.now n limit start values.old vectors.old) }
+    requires { (start ≤ longest_line) × Fits n × (length matrix.old ≡ n * n * 2) × (length values.old ≡ n * 2) × (length vectors.old ≡ n * n * 2) }
+    ensures { page out.new result ≡ written (page out.old 0) (eig_of_lines text.now n limit start values.old vectors.old) }
 {
     if !read::body(text, start, matrix) {
         return write::refusal(out, 0, refusals::UNREADABLE);
@@ -45,8 +45,8 @@ fn of_lines(
 
 // The same in buffers of its own.
 fn in_room(text: &[u8], out: &mut [u8], n: usize, limit: usize, start: usize) -> usize
-    requires { (start ≤ longestLine) × Fits n }
-    ensures { page out.new result ≡ written (page out.old 0) (eigInRoom text.now n limit start) }
+    requires { (start ≤ longest_line) × Fits n }
+    ensures { page out.new result ≡ written (page out.old 0) (eig_in_room text.now n limit start) }
 {
     let full = n * n * 2;
     let row = n * 2;
@@ -67,7 +67,7 @@ fn in_room(text: &[u8], out: &mut [u8], n: usize, limit: usize, start: usize) ->
 
 // The number that the first line is refused by, 0 where it is not.
 pub(crate) fn line_refusal(n: usize, limit: usize) -> u32
-    ensures { result ≡ eigLineRefusal n limit }
+    ensures { result ≡ eig_line_refusal n limit }
 {
     if refusals::LARGEST_N < n {
         return refusals::TOO_LARGE;
@@ -83,8 +83,8 @@ pub(crate) fn line_refusal(n: usize, limit: usize) -> u32
 
 // The command: 1, 3 and 4 are decided from the first line.
 pub(crate) fn command(text: &[u8], out: &mut [u8], n: usize, limit: usize, start: usize) -> usize
-    requires { start ≤ longestLine }
-    ensures { page out.new result ≡ written (page out.old 0) (eigOutput text.now n limit start) }
+    requires { start ≤ longest_line }
+    ensures { page out.new result ≡ written (page out.old 0) (eig_output text.now n limit start) }
 {
     let number = line_refusal(n, limit);
     if number != 0 {

@@ -6,9 +6,9 @@ mod write;
 
 ghost use Rattle.std.specs.Prelude.{◌≡◌, ◌≤◌, length, take};
 ghost use Rattle.texts.specs.Page.{page, written};
-ghost use Rattle.dualrun_text.specs.Request.{lineRefusal};
-ghost use Rattle.dualrun_text.specs.Output.{outputOf};
-ghost use Rattle.dualrun_text.specs.Decided.{decidedOf};
+ghost use Rattle.dualrun_text.specs.Request.{line_refusal};
+ghost use Rattle.dualrun_text.specs.Output.{output_of};
+ghost use Rattle.dualrun_text.specs.Decided.{decided_of};
 
 // The bytes of the longest first line that can be read: `eig `, nine digits, a space, nine digits and a newline.
 pub const LONGEST_LINE: usize = 24;
@@ -44,7 +44,7 @@ enum Request {
 impl Request {
     // The number that the first line is refused by, 0 where it is not.
     fn line_refusal(self) -> u32
-        ensures { result ≡ lineRefusal self }
+        ensures { result ≡ line_refusal self }
     {
         match self {
             Request::Lu { n, start: _ } => lu::line_refusal(n),
@@ -64,7 +64,7 @@ enum Word {
 // What the runner writes for a text, put at the start of a lent buffer, as far as it fits: the number of bytes put there. The rest of the buffer stays
 // as it was. No text gives more than 65,536 bytes, and none gives another output than its first 65,536 bytes do.
 pub fn run(text: &[u8], out: &mut [u8]) -> usize
-    ensures result_after { page out.new result ≡ written (page out.old 0) (outputOf text.now) }
+    ensures result_after { page out.new result ≡ written (page out.old 0) (output_of text.now) }
     ensures upper_bound { (result ≤ length out.new) × (result ≡ length (take result out.new)) }
 {
     match read::request(text) {
@@ -76,7 +76,7 @@ pub fn run(text: &[u8], out: &mut [u8]) -> usize
 
 // Whether the text decides the output, whatever follows it: its first line has come, and is refused 1, 3 or 4 or cannot be read.
 pub fn decided(text: &[u8]) -> bool
-    ensures { result ≡ decidedOf text.now }
+    ensures { result ≡ decided_of text.now }
 {
     if !read::has_line(text) {
         return false;

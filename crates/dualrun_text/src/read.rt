@@ -1,15 +1,15 @@
 // Reading: the first line, and the words of the matrix.
 ghost use Rattle.std.specs.Prelude.{◌≡◌, true, ◌≤◌, ◌<◌, length};
-ghost use Rattle.dualrun_text.specs.Request.{longestLine, luLine, eigLine, limitLine, requestOf};
-ghost use Rattle.dualrun_text.specs.Decided.{hasLine};
-ghost use Rattle.dualrun_text.specs.Body.{mostFloats, separatorOf, word_at, isBody, floatsFrom};
+ghost use Rattle.dualrun_text.specs.Request.{longest_line, lu_line, eig_line, limit_line, request_of};
+ghost use Rattle.dualrun_text.specs.Decided.{has_line};
+ghost use Rattle.dualrun_text.specs.Body.{most_floats, separator_of, word_at, is_body, floats_from};
 
 use super::{Request, Word};
 use texts::Number;
 
 // N and the newline, after `lu `.
 fn lu_line(text: &[u8]) -> Request
-    ensures { result ≡ luLine text.now }
+    ensures { result ≡ lu_line text.now }
 {
     let Number::Is { value, end } = texts::read::number(text, 3, super::NUMBER_DIGITS) else {
         return Request::Unreadable;
@@ -25,8 +25,8 @@ fn lu_line(text: &[u8]) -> Request
 
 // S and the newline, after N.
 fn limit_line(text: &[u8], n: usize, p: usize) -> Request
-    requires { p ≤ longestLine }
-    ensures { result ≡ limitLine text.now n p }
+    requires { p ≤ longest_line }
+    ensures { result ≡ limit_line text.now n p }
 {
     let Number::Is { value, end } = texts::read::number(text, p, super::NUMBER_DIGITS) else {
         return Request::Unreadable;
@@ -43,7 +43,7 @@ fn limit_line(text: &[u8], n: usize, p: usize) -> Request
 
 // N and a space, after `eig `, then S.
 fn eig_line(text: &[u8]) -> Request
-    ensures { result ≡ eigLine text.now }
+    ensures { result ≡ eig_line text.now }
 {
     let Number::Is { value, end } = texts::read::number(text, 4, super::NUMBER_DIGITS) else {
         return Request::Unreadable;
@@ -56,7 +56,7 @@ fn eig_line(text: &[u8]) -> Request
 
 // What the first line asks.
 pub(crate) fn request(text: &[u8]) -> Request
-    ensures { result ≡ requestOf text.now }
+    ensures { result ≡ request_of text.now }
 {
     if texts::read::starts_with(b"lu ", text) {
         return lu_line(text);
@@ -69,7 +69,7 @@ pub(crate) fn request(text: &[u8]) -> Request
 
 // The first line has come: a newline, or as many bytes as the longest line has that can be read.
 pub(crate) fn has_line(text: &[u8]) -> bool
-    ensures { result ≡ hasLine text.now }
+    ensures { result ≡ has_line text.now }
 {
     if super::LONGEST_LINE <= text.len() {
         return true;
@@ -86,14 +86,14 @@ pub(crate) fn has_line(text: &[u8]) -> bool
 
 // The byte after word number i.
 fn separator(i: usize) -> u8
-    ensures { result ≡ separatorOf i }
+    ensures { result ≡ separator_of i }
 {
     if i % 2 == 0 { b' ' } else { b'\n' }
 }
 
 // Word number i of the lines that begin at `start`.
 fn word(text: &[u8], start: usize, i: usize) -> Word
-    requires { (start ≤ longestLine) × (i < mostFloats) }
+    requires { (start ≤ longest_line) × (i < most_floats) }
     ensures { result ≡ word_at text.now start i }
 {
     let p = start + super::WORD_BYTES * i;
@@ -110,9 +110,9 @@ fn word(text: &[u8], start: usize, i: usize) -> Word
 
 // The lines from `start` on into the matrix, which they fill; false where they are not as they should be.
 pub(crate) fn body(text: &[u8], start: usize, matrix: &mut [f64]) -> bool
-    requires { (start ≤ longestLine) × (length matrix.old ≤ mostFloats) }
-    ensures value { result ≡ isBody text.now start (length matrix.old) }
-    ensures matrix_after { result ≡ true → matrix.new ≡ floatsFrom text.now start (length matrix.old) }
+    requires { (start ≤ longest_line) × (length matrix.old ≤ most_floats) }
+    ensures value { result ≡ is_body text.now start (length matrix.old) }
+    ensures matrix_after { result ≡ true → matrix.new ≡ floats_from text.now start (length matrix.old) }
 {
     if text.len() != start + super::WORD_BYTES * matrix.len() {
         return false;

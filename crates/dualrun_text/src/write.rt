@@ -1,19 +1,19 @@
 // Writing, as crates/texts does it: each function puts a text after the first `at` bytes of a lent buffer and answers how many are then written.
 ghost use Rattle.std.specs.Prelude.{◌≡◌, ◌*◌, ◌≤◌, length};
 ghost use Rattle.texts.specs.Page.{page, written};
-ghost use Rattle.dualrun_text.specs.Lines.{wordText, refusalLine, pairLine, recordLine, recordLines, entryText, orderLine};
+ghost use Rattle.dualrun_text.specs.Lines.{word_text, refusal_line, pair_line, record_line, record_lines, entry_text, order_line};
 ghost use Rattle.dualrun_text.specs.Lines.{entries as Lines·entries};
 
 // The word of a float.
 fn word(out: &mut [u8], at: usize, x: f64) -> usize
-    ensures { page out.new result ≡ written (page out.old at) (wordText x) }
+    ensures { page out.new result ≡ written (page out.old at) (word_text x) }
 {
     texts::write::word(out, at, real::word_of_float(x))
 }
 
 // The number of a refusal, alone on a line.
 pub(crate) fn refusal(out: &mut [u8], at: usize, number: u32) -> usize
-    ensures { page out.new result ≡ written (page out.old at) (refusalLine number) }
+    ensures { page out.new result ≡ written (page out.old at) (refusal_line number) }
 {
     let end = texts::write::number(out, at, number as u64);
     texts::write::byte(out, end, b'\n')
@@ -21,7 +21,7 @@ pub(crate) fn refusal(out: &mut [u8], at: usize, number: u32) -> usize
 
 // Two numbers on a line.
 pub(crate) fn pair(out: &mut [u8], at: usize, a: usize, b: usize) -> usize
-    ensures { page out.new result ≡ written (page out.old at) (pairLine a b) }
+    ensures { page out.new result ≡ written (page out.old at) (pair_line a b) }
 {
     let first = texts::write::number(out, at, a as u64);
     let space = texts::write::byte(out, first, b' ');
@@ -31,7 +31,7 @@ pub(crate) fn pair(out: &mut [u8], at: usize, a: usize, b: usize) -> usize
 
 // A record on a line.
 fn record(out: &mut [u8], at: usize, re: f64, eps: f64) -> usize
-    ensures { page out.new result ≡ written (page out.old at) (recordLine re eps) }
+    ensures { page out.new result ≡ written (page out.old at) (record_line re eps) }
 {
     let first = word(out, at, re);
     let space = texts::write::byte(out, first, b' ');
@@ -42,7 +42,7 @@ fn record(out: &mut [u8], at: usize, re: f64, eps: f64) -> usize
 // The first so many records of flat floats, one a line.
 pub(crate) fn records(out: &mut [u8], at: usize, floats: &[f64], count: usize) -> usize
     requires { 2 * count ≤ length floats.now }
-    ensures { page out.new result ≡ written (page out.old at) (recordLines floats.now count) }
+    ensures { page out.new result ≡ written (page out.old at) (record_lines floats.now count) }
 {
     let mut end = at;
     let mut k = 0;
@@ -55,7 +55,7 @@ pub(crate) fn records(out: &mut [u8], at: usize, floats: &[f64], count: usize) -
 
 // Entry number i of an order, a space before it unless it is the first.
 fn entry(out: &mut [u8], at: usize, i: usize, x: usize) -> usize
-    ensures { page out.new result ≡ written (page out.old at) (entryText i x) }
+    ensures { page out.new result ≡ written (page out.old at) (entry_text i x) }
 {
     if i == 0 {
         return texts::write::number(out, at, x as u64);
@@ -79,7 +79,7 @@ fn entries(out: &mut [u8], at: usize, order: &[usize]) -> usize
 
 // An order on a line.
 pub(crate) fn order(out: &mut [u8], at: usize, order: &[usize]) -> usize
-    ensures { page out.new result ≡ written (page out.old at) (orderLine order.now (length order.now)) }
+    ensures { page out.new result ≡ written (page out.old at) (order_line order.now (length order.now)) }
 {
     let end = entries(out, at, order);
     texts::write::byte(out, end, b'\n')

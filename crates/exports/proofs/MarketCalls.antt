@@ -15,15 +15,15 @@ use Rattle.real.specs.Operations as float
 use Rattle.algebra.specs.Outcome.{Outcome, value, refused, number_of}
 use Rattle.market.specs.Answers.{Left, answered}
 use Rattle.market.specs.Format.{Market}
-use Rattle.market.specs.Read.{readLeft}
-use Rattle.market.specs.Write.{writeText, page, writeLeft}
-use Rattle.market.specs.Entries.{matrixOf}
+use Rattle.market.specs.Read.{read_left}
+use Rattle.market.specs.Write.{write_text, page, write_left}
+use Rattle.market.specs.Entries.{matrix_of}
 use Rattle.market.proofs.Refusals.{Numbered}
-use Rattle.market.proofs.Buffers.{Kept, Alike, read-numbered, read_kept, read_alike, write-numbered, write_kept, write-alike}
-use Rattle.market.proofs.ReadsFormat.{market-read, tidy-market}
-use Rattle.market.proofs.RoundTrip.{plain, told-length, round_trip}
-use Rattle.market.proofs.WriteBack.{write-back}
-use Rattle.exports.specs.Numbered.{count_of, leftNumbered}
+use Rattle.market.proofs.Buffers.{Kept, Alike, read_numbered, read_kept, read_alike, write_numbered, write_kept, write_alike}
+use Rattle.market.proofs.ReadsFormat.{market_read, tidy_market}
+use Rattle.market.proofs.RoundTrip.{plain, told_length, round_trip}
+use Rattle.market.proofs.WriteBack.{write_back}
+use Rattle.exports.specs.Numbered.{count_of, left_numbered}
 use Rattle.exports.proofs.matrix_market.evindrast_market_read as read
 use Rattle.exports.proofs.matrix_market.evindrast_market_write as write
 use Rattle.exports.proofs.matrix_market.evindrast_hyperdual_market_read as hyper-read
@@ -31,10 +31,10 @@ use Rattle.exports.proofs.matrix_market.evindrast_hyperdual_market_write as hype
 
 -- the promises, at w floats a record
 abbrev ReadPromise : ℕ → Out 3 read.Kinds.ps read.Kinds.r
-ReadPromise w κs a x s = (x, (s.1.1.0.now, s.1.0.now)) ≡ leftNumbered a.1.1.0.now (readLeft w a.0.now a.1.0.now)
+ReadPromise w κs a x s = (x, (s.1.1.0.now, s.1.0.now)) ≡ left_numbered a.1.1.0.now (read_left w a.0.now a.1.0.now)
 
 abbrev WritePromise : ℕ → Out 3 write.Kinds.ps write.Kinds.r
-WritePromise w κs a x s = (x, (s.1.1.1.0.now, s.1.1.0.now)) ≡ leftNumbered a.1.1.1.0.now (writeLeft w a.0 a.1.0.now a.1.1.0.now)
+WritePromise w κs a x s = (x, (s.1.1.1.0.now, s.1.1.0.now)) ≡ left_numbered a.1.1.1.0.now (write_left w a.0 a.1.0.now a.1.1.0.now)
 
 -- ---- one call, and two of the same
 module _ (reads : Out 3 read.Kinds.ps read.Kinds.r) where
@@ -69,10 +69,10 @@ module _ (writes : Out 3 write.Kinds.ps write.Kinds.r) where
       (x ≡ x') × (x ≡ 0 → (v.1.1.1.0 ≡ v'.1.1.1.0) × (v.1.1.0 ≡ v'.1.1.0))
 
 -- of what crosses, whatever was lent to be written: where the call is refused, the count and the buffer are as they were
-nothing_written : {A : Type 0} (before x after : ℕ) (buffer lent : List A) (l : Left A) → Kept l lent → (x, (after, buffer)) ≡ leftNumbered before l → (x ≡ 0 → ⊥) → (after ≡ before) × (buffer ≡ lent)
+nothing_written : {A : Type 0} (before x after : ℕ) (buffer lent : List A) (l : Left A) → Kept l lent → (x, (after, buffer)) ≡ left_numbered before l → (x ≡ 0 → ⊥) → (after ≡ before) × (buffer ≡ lent)
 nothing_written {A} before x after buffer lent l kept p other =
     let refusal = kept (λ e. other (ap (λ (t : ℕ × (ℕ × List A)). t.0) p ∙ e)) in
-    let e = p ∙ ap (leftNumbered before) refusal.1 in
+    let e = p ∙ ap (left_numbered before) refusal.1 in
     (ap (λ (t : ℕ × (ℕ × List A)). t.1.0) e, ap (λ (t : ℕ × (ℕ × List A)). t.1.1) e)
 
 -- the count is the same, whatever stood there, where the call is done
@@ -81,7 +81,7 @@ count_same before before' (value m) h e = refl
 count_same before before' (refused number) h e = absurd (omega arith)
 
 -- and what two calls that are alike leave crosses alike
-same_left : {A : Type 0} (before before' x x' after after' : ℕ) (buffer buffer' : List A) (l l' : Left A) → Numbered l.answer → Alike l l' → (x, (after, buffer)) ≡ leftNumbered before l → (x', (after', buffer')) ≡ leftNumbered before' l'
+same_left : {A : Type 0} (before before' x x' after after' : ℕ) (buffer buffer' : List A) (l l' : Left A) → Numbered l.answer → Alike l l' → (x, (after, buffer)) ≡ left_numbered before l → (x', (after', buffer')) ≡ left_numbered before' l'
     → (x ≡ x') × (x ≡ 0 → (after ≡ after') × (buffer ≡ buffer'))
 same_left {A} before before' x x' after after' buffer buffer' l l' numbered alike p p' =
     let number = ap (λ (t : ℕ × (ℕ × List A)). t.0) p in (
@@ -92,52 +92,52 @@ same_left {A} before before' x x' after after' buffer buffer' l l' numbered alik
       ),
     )
 
-nothing-read-by : (w : ℕ) → ReadNothingWritten (ReadPromise w)
-nothing-read-by w κs a x v p other = nothing_written a.1.1.0.now x _ _ a.1.0.now (readLeft w a.0.now a.1.0.now) (read_kept w a.0.now a.1.0.now) p other
+nothing_read_by : (w : ℕ) → ReadNothingWritten (ReadPromise w)
+nothing_read_by w κs a x v p other = nothing_written a.1.1.0.now x _ _ a.1.0.now (read_left w a.0.now a.1.0.now) (read_kept w a.0.now a.1.0.now) p other
 
-nothing-written-by : (w : ℕ) → WriteNothingWritten (WritePromise w)
-nothing-written-by w κs a x v p other =
+nothing_written_by : (w : ℕ) → WriteNothingWritten (WritePromise w)
+nothing_written_by w κs a x v p other =
     let lent = a.1.1.0.now in
-    nothing_written a.1.1.1.0.now x _ _ lent (writeLeft w a.0 a.1.0.now lent) (write_kept w a.0 a.1.0.now lent) p other
+    nothing_written a.1.1.1.0.now x _ _ lent (write_left w a.0 a.1.0.now lent) (write_kept w a.0 a.1.0.now lent) p other
 
-previous-read-by : (w : ℕ) → ReadPreviousContents (ReadPromise w)
-previous-read-by w κs κs' a a' x x' v v' p p' text long =
-    let first = readLeft w a.0.now a.1.0.now in
-    let second = ap (λ (t : List ℕ). readLeft w t a'.1.0.now) text in
-    same_left a.1.1.0.now a'.1.1.0.now x x' _ _ _ _ first (readLeft w a.0.now a'.1.0.now) (read-numbered w a.0.now a.1.0.now)
-    (read_alike w a.0.now a.1.0.now a'.1.0.now long) p (p' ∙ ap (leftNumbered a'.1.1.0.now) (sym second))
+previous_read_by : (w : ℕ) → ReadPreviousContents (ReadPromise w)
+previous_read_by w κs κs' a a' x x' v v' p p' text long =
+    let first = read_left w a.0.now a.1.0.now in
+    let second = ap (λ (t : List ℕ). read_left w t a'.1.0.now) text in
+    same_left a.1.1.0.now a'.1.1.0.now x x' _ _ _ _ first (read_left w a.0.now a'.1.0.now) (read_numbered w a.0.now a.1.0.now)
+    (read_alike w a.0.now a.1.0.now a'.1.0.now long) p (p' ∙ ap (left_numbered a'.1.1.0.now) (sym second))
 
-previous-written-by : (w : ℕ) → WritePreviousContents (WritePromise w)
-previous-written-by w κs κs' a a' x x' v v' p p' size matrix long =
+previous_written_by : (w : ℕ) → WritePreviousContents (WritePromise w)
+previous_written_by w κs κs' a a' x x' v v' p p' size matrix long =
     let lent = a.1.1.0.now in
     let lent' = a'.1.1.0.now in
-    let second : writeLeft w a.0 a.1.0.now lent' ≡ writeLeft w a'.0 a'.1.0.now lent' = (λ i. writeLeft w (size i) (matrix i) lent') in
-    same_left a.1.1.1.0.now a'.1.1.1.0.now x x' _ _ _ _ (writeLeft w a.0 a.1.0.now lent) (writeLeft w a.0 a.1.0.now lent') (write-numbered w a.0 a.1.0.now lent)
-    (write-alike w a.0 a.1.0.now lent lent' long) p (p' ∙ ap (leftNumbered a'.1.1.1.0.now) (sym second))
+    let second : write_left w a.0 a.1.0.now lent' ≡ write_left w a'.0 a'.1.0.now lent' = (λ i. write_left w (size i) (matrix i) lent') in
+    same_left a.1.1.1.0.now a'.1.1.1.0.now x x' _ _ _ _ (write_left w a.0 a.1.0.now lent) (write_left w a.0 a.1.0.now lent') (write_numbered w a.0 a.1.0.now lent)
+    (write_alike w a.0 a.1.0.now lent lent' long) p (p' ∙ ap (left_numbered a'.1.1.1.0.now) (sym second))
 
-pub market-read-nothing-written : ReadNothingWritten read.Reads.Post
-market-read-nothing-written = nothing-read-by 2
+pub market_read_nothing_written : ReadNothingWritten read.Reads.Post
+market_read_nothing_written = nothing_read_by 2
 
-pub hyper-market-read-nothing-written : ReadNothingWritten hyper-read.Reads.Post
-hyper-market-read-nothing-written = nothing-read-by 4
+pub hyper_market_read_nothing_written : ReadNothingWritten hyper-read.Reads.Post
+hyper_market_read_nothing_written = nothing_read_by 4
 
-pub market-write-nothing-written : WriteNothingWritten write.Reads.Post
-market-write-nothing-written = nothing-written-by 2
+pub market_write_nothing_written : WriteNothingWritten write.Reads.Post
+market_write_nothing_written = nothing_written_by 2
 
-pub hyper-market-write-nothing-written : WriteNothingWritten hyper-write.Reads.Post
-hyper-market-write-nothing-written = nothing-written-by 4
+pub hyper_market_write_nothing_written : WriteNothingWritten hyper-write.Reads.Post
+hyper_market_write_nothing_written = nothing_written_by 4
 
-pub market-read-previous-contents : ReadPreviousContents read.Reads.Post
-market-read-previous-contents = previous-read-by 2
+pub market_read_previous_contents : ReadPreviousContents read.Reads.Post
+market_read_previous_contents = previous_read_by 2
 
-pub hyper-market-read-previous-contents : ReadPreviousContents hyper-read.Reads.Post
-hyper-market-read-previous-contents = previous-read-by 4
+pub hyper_market_read_previous_contents : ReadPreviousContents hyper-read.Reads.Post
+hyper_market_read_previous_contents = previous_read_by 4
 
-pub market-write-previous-contents : WritePreviousContents write.Reads.Post
-market-write-previous-contents = previous-written-by 2
+pub market_write_previous_contents : WritePreviousContents write.Reads.Post
+market_write_previous_contents = previous_written_by 2
 
-pub hyper-market-write-previous-contents : WritePreviousContents hyper-write.Reads.Post
-hyper-market-write-previous-contents = previous-written-by 4
+pub hyper_market_write_previous_contents : WritePreviousContents hyper-write.Reads.Post
+hyper_market_write_previous_contents = previous_written_by 4
 
 -- ---- a call of one and a call of the other
 module _ (w : ℕ) (writes : Out 3 write.Kinds.ps write.Kinds.r) (reads : Out 3 read.Kinds.ps read.Kinds.r) where
@@ -160,31 +160,31 @@ module _ (w : ℕ) (writes : Out 3 write.Kinds.ps write.Kinds.r) (reads : Out 3 
       (v : Lasts (ended_of 3 read.Kinds.ps read.Kinds.r) κs b) (v' : Lasts (ended_of 3 write.Kinds.ps write.Kinds.r) κs' a) →
       reads κs b y (at_exit (ended_of 3 read.Kinds.ps read.Kinds.r) κs b v) → writes κs' a x (at_exit (ended_of 3 write.Kinds.ps write.Kinds.r) κs' a v') →
       (numbers : List Float) → Market true false a.0 numbers b.0.now → length b.1.0.now ≡ a.0 * a.0 * w → a.1.0.now ≡ v.1.0 → length a.1.1.0.now ≡ page →
-      (y ≡ 0) × ((x ≡ 0) × (answered (value v'.1.1.1.0) v'.1.1.0 ≡ writeText b.0.now))
+      (y ≡ 0) × ((x ≡ 0) × (answered (value v'.1.1.1.0) v'.1.1.0 ≡ write_text b.0.now))
 
-round-trip-by : (w : ℕ) → 0 < w → RoundTrip w (WritePromise w) (ReadPromise w)
-round-trip-by w positive κs κs' a b x y v v' p q machine done given room =
+round_trip_by : (w : ℕ) → 0 < w → RoundTrip w (WritePromise w) (ReadPromise w)
+round_trip_by w positive κs κs' a b x y v v' p q machine done given room =
     let n = a.0 in
     let matrix = a.1.0.now in
-    let left = writeLeft w n matrix a.1.1.0.now in
+    let left = write_left w n matrix a.1.1.0.now in
     let out = b.1.0.now in
     let before = a.1.1.1.0.now in
-    let told = told-length w n matrix a.1.1.0.now (sym (ap (λ (t : ℕ × (ℕ × List ℕ)). t.0) p) ∙ done) in
+    let told = told_length w n matrix a.1.1.0.now (sym (ap (λ (t : ℕ × (ℕ × List ℕ)). t.0) p) ∙ done) in
     let long = ap (λ (t : ℕ × (ℕ × List ℕ)). t.1.0) p ∙ ap (λ (l : Left ℕ). count_of before l.answer) told.1 in
     let text = ap (λ (t : ℕ × (ℕ × List ℕ)). t.1.1) p in
-    let read_again = ap (λ (t : List ℕ). readLeft w t out) (given ∙ (λ i. take (long i) (text i))) ∙ round_trip w n matrix a.1.1.0.now left.buffer told.0 out positive machine told.1 room in
-    let e = q ∙ ap (leftNumbered b.1.1.0.now) read_again in
+    let read_again = ap (λ (t : List ℕ). read_left w t out) (given ∙ (λ i. take (long i) (text i))) ∙ round_trip w n matrix a.1.1.0.now left.buffer told.0 out positive machine told.1 room in
+    let e = q ∙ ap (left_numbered b.1.1.0.now) read_again in
     (ap (λ (t : ℕ × (ℕ × List Float)). t.0) e, (ap (λ (t : ℕ × (ℕ × List Float)). t.1.0) e, ap (λ (t : ℕ × (ℕ × List Float)). t.1.1) e))
 
-same-text-by : (w : ℕ) → 0 < w → SameText w (WritePromise w) (ReadPromise w)
-unfolding writeText
-same-text-by w positive κs κs' b a y x v v' q p numbers market room given lent =
+same_text_by : (w : ℕ) → 0 < w → SameText w (WritePromise w) (ReadPromise w)
+unfolding write_text
+same_text_by w positive κs κs' b a y x v v' q p numbers market room given lent =
     let n = a.0 in
     let text = b.0.now in
-    let matrix = matrixOf w false n numbers in
-    let e = q ∙ ap (leftNumbered b.1.1.0.now) (market-read w false n numbers text (tidy-market false n numbers text market) b.1.0.now room) in
+    let matrix = matrix_of w false n numbers in
+    let e = q ∙ ap (left_numbered b.1.1.0.now) (market_read w false n numbers text (tidy_market false n numbers text market) b.1.0.now room) in
     let left = ap (λ (t : ℕ × (ℕ × List Float)). t.1.1) e in
-    let f = p ∙ ap (leftNumbered a.1.1.1.0.now) (ap (λ (l : List Float). writeLeft w n l a.1.1.0.now) (given ∙ left) ∙ write-back w n numbers text positive market a.1.1.0.now lent) in (
+    let f = p ∙ ap (left_numbered a.1.1.1.0.now) (ap (λ (l : List Float). write_left w n l a.1.1.0.now) (given ∙ left) ∙ write_back w n numbers text positive market a.1.1.0.now lent) in (
       ap (λ (t : ℕ × (ℕ × List Float)). t.0) e,
       (
         ap (λ (t : ℕ × (ℕ × List ℕ)). t.0) f,
@@ -192,14 +192,14 @@ same-text-by w positive κs κs' b a y x v v' q p numbers market room given lent
       ),
     )
 
-pub market-round-trip : RoundTrip 2 write.Reads.Post read.Reads.Post
-market-round-trip = round-trip-by 2 (omega arith)
+pub market_round_trip : RoundTrip 2 write.Reads.Post read.Reads.Post
+market_round_trip = round_trip_by 2 (omega arith)
 
-pub hyper-market-round-trip : RoundTrip 4 hyper-write.Reads.Post hyper-read.Reads.Post
-hyper-market-round-trip = round-trip-by 4 (omega arith)
+pub hyper_market_round_trip : RoundTrip 4 hyper-write.Reads.Post hyper-read.Reads.Post
+hyper_market_round_trip = round_trip_by 4 (omega arith)
 
-pub market-same-text : SameText 2 write.Reads.Post read.Reads.Post
-market-same-text = same-text-by 2 (omega arith)
+pub market_same_text : SameText 2 write.Reads.Post read.Reads.Post
+market_same_text = same_text_by 2 (omega arith)
 
-pub hyper-market-same-text : SameText 4 hyper-write.Reads.Post hyper-read.Reads.Post
-hyper-market-same-text = same-text-by 4 (omega arith)
+pub hyper_market_same_text : SameText 4 hyper-write.Reads.Post hyper-read.Reads.Post
+hyper_market_same_text = same_text_by 4 (omega arith)

@@ -1,8 +1,8 @@
 // LU, solve, determinant and inverse of matrices of `HyperDual`: row by row, four floats a record in the order re, eps1, eps2, eps1eps2.
 ghost use Rattle.std.specs.Prelude.{◌≡◌};
-ghost use Rattle.hyperdual.specs.Rules.{hyperDualAlgebra, hyperDualLayout};
-ghost use Rattle.matrices.specs.Entries.{luLeft, solveLeft, inverseLeft, determinantLeft};
-ghost use Rattle.exports.specs.Numbered.{luNumbered, solveNumbered, hyperDualDeterminantNumbered};
+ghost use Rattle.hyperdual.specs.Rules.{hyper_dual_algebra, hyper_dual_layout};
+ghost use Rattle.matrices.specs.Entries.{lu_left, solve_left, inverse_left, determinant_left};
+ghost use Rattle.exports.specs.Numbered.{lu_numbered, solve_numbered, hyper_dual_determinant_numbered};
 
 use super::linalg::lu_number;
 use hyperdual::HyperDualAnswer;
@@ -16,7 +16,7 @@ pub extern "C" fn evindrast_hyperdual_lu(
     order: &mut [usize],
     swaps_or_column: &mut usize,
 ) -> u32
-    ensures { (result, (swaps_or_column.new, (factors.new, order.new))) ≡ luNumbered swaps_or_column.old (luLeft hyperDualAlgebra hyperDualLayout n a.now factors.old order.old) }
+    ensures { (result, (swaps_or_column.new, (factors.new, order.new))) ≡ lu_numbered swaps_or_column.old (lu_left hyper_dual_algebra hyper_dual_layout n a.now factors.old order.old) }
 {
     let answer = hyperdual_lu::lu(n, a, factors, order);
     lu_number(answer, swaps_or_column)
@@ -31,7 +31,7 @@ pub extern "C" fn evindrast_hyperdual_solve(
     b: &[f64],
     x: &mut [f64],
 ) -> u32
-    ensures { (result, x.new) ≡ solveNumbered (solveLeft hyperDualAlgebra hyperDualLayout n factors.now order.now b.now x.old) }
+    ensures { (result, x.new) ≡ solve_numbered (solve_left hyper_dual_algebra hyper_dual_layout n factors.now order.now b.now x.old) }
 {
     let answer = hyperdual_lu::solve(n, factors, order, b, x);
     answer.number()
@@ -49,7 +49,7 @@ pub extern "C" fn evindrast_hyperdual_determinant(
     eps2: &mut f64,
     eps1eps2: &mut f64,
 ) -> u32
-    ensures { (result, (re.new, (eps1.new, (eps2.new, eps1eps2.new)))) ≡ hyperDualDeterminantNumbered re.old eps1.old eps2.old eps1eps2.old (determinantLeft hyperDualAlgebra hyperDualLayout n factors.now order.now swaps) }
+    ensures { (result, (re.new, (eps1.new, (eps2.new, eps1eps2.new)))) ≡ hyper_dual_determinant_numbered re.old eps1.old eps2.old eps1eps2.old (determinant_left hyper_dual_algebra hyper_dual_layout n factors.now order.now swaps) }
 {
     let answer = hyperdual_lu::determinant(n, factors, order, swaps);
     match answer {
@@ -72,7 +72,7 @@ pub extern "C" fn evindrast_hyperdual_inverse(
     order: &[usize],
     out: &mut [f64],
 ) -> u32
-    ensures { (result, out.new) ≡ solveNumbered (inverseLeft hyperDualAlgebra hyperDualLayout n factors.now order.now out.old) }
+    ensures { (result, out.new) ≡ solve_numbered (inverse_left hyper_dual_algebra hyper_dual_layout n factors.now order.now out.old) }
 {
     let answer = hyperdual_lu::inverse(n, factors, order, out);
     answer.number()

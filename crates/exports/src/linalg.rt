@@ -1,11 +1,11 @@
 // LU, solve, determinant, inverse and Jacobi of matrices of `Dual`: row by row, two floats a record, real part first.
 ghost use Rattle.std.specs.Prelude.{◌≡◌};
-ghost use Rattle.dual.specs.Rules.{dualAlgebra, dualLayout};
-ghost use Rattle.matrices.specs.Entries.{luLeft, solveLeft, inverseLeft, determinantLeft};
-ghost use Rattle.jacobi.specs.Entry.{jacobiLeft};
+ghost use Rattle.dual.specs.Rules.{dual_algebra, dual_layout};
+ghost use Rattle.matrices.specs.Entries.{lu_left, solve_left, inverse_left, determinant_left};
+ghost use Rattle.jacobi.specs.Entry.{jacobi_left};
 ghost use Rattle.algebra.specs.Outcome.{number_of};
-ghost use Rattle.matrices.specs.Answers.{luOutcome, luColumn};
-ghost use Rattle.exports.specs.Numbered.{swapsOrColumn, luNumbered, solveNumbered, determinantNumbered, jacobiNumbered};
+ghost use Rattle.matrices.specs.Answers.{lu_outcome, lu_column};
+ghost use Rattle.exports.specs.Numbered.{swap_count_or_column, lu_numbered, solve_numbered, determinant_numbered, jacobi_numbered};
 
 use dual::DualAnswer;
 use dual_lu::LuAnswer;
@@ -13,8 +13,8 @@ use jacobi::JacobiAnswer;
 
 // The number of an answer of LU; with it the swap count, or at 6 the column.
 pub(crate) fn lu_number(answer: LuAnswer, swaps_or_column: &mut usize) -> u32
-    ensures value { result ≡ number_of (luOutcome answer) }
-    ensures swaps_or_column_after { swaps_or_column.new ≡ swapsOrColumn swaps_or_column.old (luOutcome answer) (luColumn answer) }
+    ensures value { result ≡ number_of (lu_outcome answer) }
+    ensures swaps_or_column_after { swaps_or_column.new ≡ swap_count_or_column swaps_or_column.old (lu_outcome answer) (lu_column answer) }
 {
     let LuAnswer::Done { swaps } = answer else {
         let number = answer.number();
@@ -36,7 +36,7 @@ pub extern "C" fn evindrast_lu(
     order: &mut [usize],
     swaps_or_column: &mut usize,
 ) -> u32
-    ensures { (result, (swaps_or_column.new, (factors.new, order.new))) ≡ luNumbered swaps_or_column.old (luLeft dualAlgebra dualLayout n a.now factors.old order.old) }
+    ensures { (result, (swaps_or_column.new, (factors.new, order.new))) ≡ lu_numbered swaps_or_column.old (lu_left dual_algebra dual_layout n a.now factors.old order.old) }
 {
     let answer = dual_lu::lu(n, a, factors, order);
     lu_number(answer, swaps_or_column)
@@ -51,7 +51,7 @@ pub extern "C" fn evindrast_solve(
     b: &[f64],
     x: &mut [f64],
 ) -> u32
-    ensures { (result, x.new) ≡ solveNumbered (solveLeft dualAlgebra dualLayout n factors.now order.now b.now x.old) }
+    ensures { (result, x.new) ≡ solve_numbered (solve_left dual_algebra dual_layout n factors.now order.now b.now x.old) }
 {
     let answer = dual_lu::solve(n, factors, order, b, x);
     answer.number()
@@ -67,7 +67,7 @@ pub extern "C" fn evindrast_determinant(
     re: &mut f64,
     eps: &mut f64,
 ) -> u32
-    ensures { (result, (re.new, eps.new)) ≡ determinantNumbered re.old eps.old (determinantLeft dualAlgebra dualLayout n factors.now order.now swaps) }
+    ensures { (result, (re.new, eps.new)) ≡ determinant_numbered re.old eps.old (determinant_left dual_algebra dual_layout n factors.now order.now swaps) }
 {
     let answer = dual_lu::determinant(n, factors, order, swaps);
     match answer {
@@ -88,7 +88,7 @@ pub extern "C" fn evindrast_inverse(
     order: &[usize],
     out: &mut [f64],
 ) -> u32
-    ensures { (result, out.new) ≡ solveNumbered (inverseLeft dualAlgebra dualLayout n factors.now order.now out.old) }
+    ensures { (result, out.new) ≡ solve_numbered (inverse_left dual_algebra dual_layout n factors.now order.now out.old) }
 {
     let answer = dual_lu::inverse(n, factors, order, out);
     answer.number()
@@ -104,7 +104,7 @@ pub extern "C" fn evindrast_jacobi_eigenvalue(
     vectors: &mut [f64],
     sweeps: &mut usize,
 ) -> u32
-    ensures { (result, (sweeps.new, (values.new, vectors.new))) ≡ jacobiNumbered sweeps.old (jacobiLeft dualAlgebra dualLayout n a.now limit values.old vectors.old) }
+    ensures { (result, (sweeps.new, (values.new, vectors.new))) ≡ jacobi_numbered sweeps.old (jacobi_left dual_algebra dual_layout n a.now limit values.old vectors.old) }
 {
     let answer = jacobi::jacobi_eigenvalue(n, a, limit, values, vectors);
     let JacobiAnswer::Done { sweeps: count } = answer else {

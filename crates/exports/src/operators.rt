@@ -1,14 +1,14 @@
 // The operators of two records, each by a function of its own: what `evindrast_record` leaves for its number and no floats, without the table.
 ghost use Rattle.std.specs.Prelude.{◌≡◌, [], pos};
-ghost use Rattle.calls.specs.Called.{binaryNumber};
+ghost use Rattle.calls.specs.Called.{binary_number};
 ghost use Rattle.calls.specs.declared.Binary.TheVariants.{Add, Sub, Mul, Div};
-ghost use Rattle.exports.specs.ByKind.{recordLeft};
+ghost use Rattle.exports.specs.ByKind.{record_left};
 
 use calls::Binary;
 
 // An operation on two records of that kind, self first. Another kind or length is refused 2.
 fn operator(kind: u32, op: Binary, records: &[u64], out: &mut [u64]) -> u32
-    ensures { (result, out.new) ≡ recordLeft kind (binaryNumber op) (pos 0) records.now [] out.old }
+    ensures { (result, out.new) ≡ record_left kind (binary_number op) (pos 0) records.now [] out.old }
 {
     match kind {
         1 => dual_calls::operator(op, records, out),
@@ -23,7 +23,7 @@ fn operator(kind: u32, op: Binary, records: &[u64], out: &mut [u64]) -> u32
 // The sum of two records: function 09.
 #[unsafe(no_mangle)]
 pub extern "C" fn evindrast_add(kind: u32, records: &[u64], out: &mut [u64]) -> u32
-    ensures { (result, out.new) ≡ recordLeft kind (binaryNumber Add) (pos 0) records.now [] out.old }
+    ensures { (result, out.new) ≡ record_left kind (binary_number Add) (pos 0) records.now [] out.old }
 {
     operator(kind, Binary::Add, records, out)
 }
@@ -31,7 +31,7 @@ pub extern "C" fn evindrast_add(kind: u32, records: &[u64], out: &mut [u64]) -> 
 // The difference of two records: function 0a.
 #[unsafe(no_mangle)]
 pub extern "C" fn evindrast_sub(kind: u32, records: &[u64], out: &mut [u64]) -> u32
-    ensures { (result, out.new) ≡ recordLeft kind (binaryNumber Sub) (pos 0) records.now [] out.old }
+    ensures { (result, out.new) ≡ record_left kind (binary_number Sub) (pos 0) records.now [] out.old }
 {
     operator(kind, Binary::Sub, records, out)
 }
@@ -39,7 +39,7 @@ pub extern "C" fn evindrast_sub(kind: u32, records: &[u64], out: &mut [u64]) -> 
 // The product of two records: function 0b.
 #[unsafe(no_mangle)]
 pub extern "C" fn evindrast_mul(kind: u32, records: &[u64], out: &mut [u64]) -> u32
-    ensures { (result, out.new) ≡ recordLeft kind (binaryNumber Mul) (pos 0) records.now [] out.old }
+    ensures { (result, out.new) ≡ record_left kind (binary_number Mul) (pos 0) records.now [] out.old }
 {
     operator(kind, Binary::Mul, records, out)
 }
@@ -47,7 +47,7 @@ pub extern "C" fn evindrast_mul(kind: u32, records: &[u64], out: &mut [u64]) -> 
 // The quotient of two records: function 0c.
 #[unsafe(no_mangle)]
 pub extern "C" fn evindrast_div(kind: u32, records: &[u64], out: &mut [u64]) -> u32
-    ensures { (result, out.new) ≡ recordLeft kind (binaryNumber Div) (pos 0) records.now [] out.old }
+    ensures { (result, out.new) ≡ record_left kind (binary_number Div) (pos 0) records.now [] out.old }
 {
     operator(kind, Binary::Div, records, out)
 }

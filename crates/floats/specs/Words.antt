@@ -6,12 +6,12 @@ use Rattle.real.specs.Operations as float
 use Rattle.algebra.specs.Flat.{tabulate}
 
 -- the floats that the words stand for
-abbrev pub floatsOf : List ℕ → List Float
-floatsOf words = map (of_bits binary64) words
+abbrev pub floats_of : List ℕ → List Float
+floats_of words = map (of_bits binary64) words
 
 -- the first floats of the words, so many: +0.0 where there is no word
-unfoldable pub firstFloats : List ℕ → ℕ → List Float
-firstFloats words count = tabulate (λ i. get_or (floatsOf words) i float.zero) count 0
+unfoldable pub first_floats : List ℕ → ℕ → List Float
+first_floats words count = tabulate (λ i. get_or (floats_of words) i float.zero) count 0
 
 -- the words of the floats
 abbrev pub words_of : List Float → List ℕ

@@ -1,11 +1,11 @@
 // Floats by their words in lent slices.
 ghost use Rattle.std.specs.Prelude.{◌≡◌, [], ◌∷◌, length, get_or};
 ghost use Rattle.real.specs.Operations as float;
-ghost use Rattle.floats.specs.Words.{floatsOf, firstFloats, words_of};
+ghost use Rattle.floats.specs.Words.{floats_of, first_floats, words_of};
 
 // The float of word number i, +0.0 where there is none.
 pub fn part(words: &[u64], i: usize) -> f64
-    ensures { result ≡ get_or (floatsOf words.now) i float.zero }
+    ensures { result ≡ get_or (floats_of words.now) i float.zero }
 {
     if i < words.len() {
         real::float_of_word(words[i])
@@ -16,7 +16,7 @@ pub fn part(words: &[u64], i: usize) -> f64
 
 // The floats of the first words, as many as are lent; +0.0 where there is no word.
 pub fn read(words: &[u64], floats: &mut [f64])
-    ensures { floats.new ≡ firstFloats words.now (length floats.old) }
+    ensures { floats.new ≡ first_floats words.now (length floats.old) }
 {
     let mut i = 0;
     while i < floats.len() {

@@ -4,24 +4,24 @@ use native.Mathlib.Omega.{arith}
 use lib.Dec.{lit<, lit≤}
 use Rattle.real.specs.Operations as float
 use Rattle.algebra.specs.Flat.{tabulate, Lawful, Agrees}
-use Rattle.algebra.proofs.Flat.{tabulate-at}
+use Rattle.algebra.proofs.Flat.{tabulate_at}
 use Rattle.algebra.proofs.Laws.{Laws}
-use Rattle.hyperdual.specs.Rules.{hyperDual, hyperDualAlgebra, hyperDualLayout}
-use Rattle.hyperdual.proofs.RealParts.{hyper-dual-reals}
+use Rattle.hyperdual.specs.Rules.{hyper_dual, hyper_dual_algebra, hyper_dual_layout}
+use Rattle.hyperdual.proofs.RealParts.{hyper_dual_reals}
 
-pub hyper-dual-lawful : Lawful hyperDualLayout
+pub hyper_dual_lawful : Lawful hyper_dual_layout
 unfolding tabulate
-hyper-dual-lawful = record {
+hyper_dual_lawful = record {
   positive = lit< tt;
   size = λ x. refl;
-  reads = λ f g h. λ i. hyperDual (h 0 (lit< tt) i) (h 1 (lit< tt) i) (h 2 (lit< tt) i) (h 3 (lit< tt) i);
+  reads = λ f g h. λ i. hyper_dual (h 0 (lit< tt) i) (h 1 (lit< tt) i) (h 2 (lit< tt) i) (h 3 (lit< tt) i);
   whole = λ x. refl;
-  again = λ f i h. tabulate-at f 4 0 i float.zero h ∙ ap f (omega arith);
+  again = λ f i h. tabulate_at f 4 0 i float.zero h ∙ ap f (omega arith);
 }
 
-pub hyper-dual-agrees : Agrees hyperDualAlgebra hyperDualLayout
-hyper-dual-agrees = record { first = λ f. refl; blank = refl }
+pub hyper_dual_agrees : Agrees hyper_dual_algebra hyper_dual_layout
+hyper_dual_agrees = record { first = λ f. refl; blank = refl }
 
 -- what the code over any record asks of `HyperDual`
-pub hyper-dual-laws : Laws hyperDualAlgebra hyperDualLayout
-hyper-dual-laws = record { lawful = hyper-dual-lawful; agrees = hyper-dual-agrees; real = hyper-dual-reals; narrow = lit≤ tt }
+pub hyper_dual_laws : Laws hyper_dual_algebra hyper_dual_layout
+hyper_dual_laws = record { lawful = hyper_dual_lawful; agrees = hyper_dual_agrees; real = hyper_dual_reals; narrow = lit≤ tt }

@@ -12,102 +12,102 @@ use Rattle.hyperdual.specs.declared.HyperDualAnswer.{HyperDualAnswer}
 use Rattle.hyperdual.specs.declared.HyperDualAnswer.TheVariants.{Value, Refused}
 
 -- a record by its parts
-abbrev pub hyperDual : Float → Float → Float → Float → HyperDual
-hyperDual re eps1 eps2 eps1eps2 = record { re = re; eps1 = eps1; eps2 = eps2; eps1eps2 = eps1eps2 }
+abbrev pub hyper_dual : Float → Float → Float → Float → HyperDual
+hyper_dual re eps1 eps2 eps1eps2 = record { re = re; eps1 = eps1; eps2 = eps2; eps1eps2 = eps1eps2 }
 
 -- the partial derivative part w.r.t. the 1st variable set to 1
-abbrev pub hyperDualDerivative1 : HyperDual → HyperDual
-hyperDualDerivative1 self = hyperDual self.re one self.eps2 self.eps1eps2
+abbrev pub hyper_dual_derivative1 : HyperDual → HyperDual
+hyper_dual_derivative1 self = hyper_dual self.re one self.eps2 self.eps1eps2
 
 -- the partial derivative part w.r.t. the 2nd variable set to 1
-abbrev pub hyperDualDerivative2 : HyperDual → HyperDual
-hyperDualDerivative2 self = hyperDual self.re self.eps1 one self.eps1eps2
+abbrev pub hyper_dual_derivative2 : HyperDual → HyperDual
+hyper_dual_derivative2 self = hyper_dual self.re self.eps1 one self.eps1eps2
 
 -- a real part alone
-abbrev pub hyperDualFromRe : Float → HyperDual
-hyperDualFromRe re = hyperDual re zero zero zero
+abbrev pub hyper_dual_from_re : Float → HyperDual
+hyper_dual_from_re re = hyper_dual re zero zero zero
 
 -- chain rule
-unfoldable pub hyperDualChain : HyperDual → Float → Float → Float → HyperDual
-hyperDualChain self f0 f1 f2 =
-    hyperDual
+unfoldable pub hyper_dual_chain : HyperDual → Float → Float → Float → HyperDual
+hyper_dual_chain self f0 f1 f2 =
+    hyper_dual
     f0
     (self.eps1 ⊗ f1)
     (self.eps2 ⊗ f1)
     (self.eps1eps2 ⊗ f1 ⊕ self.eps1 ⊗ self.eps2 ⊗ f2)
 
 -- product rule
-unfoldable pub hyperDualMul : HyperDual → HyperDual → HyperDual
-hyperDualMul self other =
-    hyperDual
+unfoldable pub hyper_dual_mul : HyperDual → HyperDual → HyperDual
+hyper_dual_mul self other =
+    hyper_dual
     (self.re ⊗ other.re)
     (other.eps1 ⊗ self.re ⊕ self.eps1 ⊗ other.re)
     (other.eps2 ⊗ self.re ⊕ self.eps2 ⊗ other.re)
     (other.eps1eps2 ⊗ self.re ⊕ self.eps1 ⊗ other.eps2 ⊕ other.eps1 ⊗ self.eps2 ⊕ self.eps1eps2 ⊗ other.re)
 
 -- quotient rule
-unfoldable pub hyperDualDiv : HyperDual → HyperDual → HyperDual
-hyperDualDiv self other =
+unfoldable pub hyper_dual_div : HyperDual → HyperDual → HyperDual
+hyper_dual_div self other =
     let inv = one ⊘ other.re in
     let inv2 = inv ⊗ inv in
-    hyperDual
+    hyper_dual
     (self.re ⊗ inv)
     ((self.eps1 ⊗ other.re ⊖ other.eps1 ⊗ self.re) ⊗ inv2)
     ((self.eps2 ⊗ other.re ⊖ other.eps2 ⊗ self.re) ⊗ inv2)
     (self.eps1eps2 ⊗ inv ⊖ (other.eps1eps2 ⊗ self.re ⊕ self.eps1 ⊗ other.eps2 ⊕ other.eps1 ⊗ self.eps2) ⊗ inv2 ⊕ other.eps1 ⊗ other.eps2 ⊗ ((one ⊕ one) ⊗ self.re ⊗ inv2 ⊗ inv))
 
 -- part by part
-unfoldable pub hyperDualAdd : HyperDual → HyperDual → HyperDual
-hyperDualAdd self other = hyperDual (self.re ⊕ other.re) (self.eps1 ⊕ other.eps1) (self.eps2 ⊕ other.eps2) (self.eps1eps2 ⊕ other.eps1eps2)
+unfoldable pub hyper_dual_add : HyperDual → HyperDual → HyperDual
+hyper_dual_add self other = hyper_dual (self.re ⊕ other.re) (self.eps1 ⊕ other.eps1) (self.eps2 ⊕ other.eps2) (self.eps1eps2 ⊕ other.eps1eps2)
 
-unfoldable pub hyperDualSub : HyperDual → HyperDual → HyperDual
-hyperDualSub self other = hyperDual (self.re ⊖ other.re) (self.eps1 ⊖ other.eps1) (self.eps2 ⊖ other.eps2) (self.eps1eps2 ⊖ other.eps1eps2)
+unfoldable pub hyper_dual_sub : HyperDual → HyperDual → HyperDual
+hyper_dual_sub self other = hyper_dual (self.re ⊖ other.re) (self.eps1 ⊖ other.eps1) (self.eps2 ⊖ other.eps2) (self.eps1eps2 ⊖ other.eps1eps2)
 
-unfoldable pub hyperDualNeg : HyperDual → HyperDual
-hyperDualNeg self = hyperDual (neg self.re) (neg self.eps1) (neg self.eps2) (neg self.eps1eps2)
+unfoldable pub hyper_dual_neg : HyperDual → HyperDual
+hyper_dual_neg self = hyper_dual (neg self.re) (neg self.eps1) (neg self.eps2) (neg self.eps1eps2)
 
 -- a plain float multiplies or divides each part
-unfoldable pub hyperDualMulFloat : HyperDual → Float → HyperDual
-hyperDualMulFloat self other = hyperDual (self.re ⊗ other) (self.eps1 ⊗ other) (self.eps2 ⊗ other) (self.eps1eps2 ⊗ other)
+unfoldable pub hyper_dual_mul_float : HyperDual → Float → HyperDual
+hyper_dual_mul_float self other = hyper_dual (self.re ⊗ other) (self.eps1 ⊗ other) (self.eps2 ⊗ other) (self.eps1eps2 ⊗ other)
 
-unfoldable pub hyperDualDivFloat : HyperDual → Float → HyperDual
-hyperDualDivFloat self other = hyperDual (self.re ⊘ other) (self.eps1 ⊘ other) (self.eps2 ⊘ other) (self.eps1eps2 ⊘ other)
+unfoldable pub hyper_dual_div_float : HyperDual → Float → HyperDual
+hyper_dual_div_float self other = hyper_dual (self.re ⊘ other) (self.eps1 ⊘ other) (self.eps2 ⊘ other) (self.eps1eps2 ⊘ other)
 
 -- the highest order of a derivative that the record carries: NDERIV
-abbrev pub hyperDualNderiv : ℕ
-hyperDualNderiv = 2
+abbrev pub hyper_dual_nderiv : ℕ
+hyper_dual_nderiv = 2
 
 -- `HyperDual` by its operations
-abbrev pub hyperDualAlgebra : Algebra HyperDual
-hyperDualAlgebra = record {
+abbrev pub hyper_dual_algebra : Algebra HyperDual
+hyper_dual_algebra = record {
   re = λ x. x.re;
-  fromRe = hyperDualFromRe;
-  withRe = λ x re. hyperDual re x.eps1 x.eps2 x.eps1eps2;
-  add = hyperDualAdd;
-  sub = hyperDualSub;
-  mul = hyperDualMul;
-  div = hyperDualDiv;
-  neg = hyperDualNeg;
-  mulFloat = hyperDualMulFloat;
-  divFloat = hyperDualDivFloat;
-  chain = λ x f0 f1 f2 f3. hyperDualChain x f0 f1 f2;
+  from_re = hyper_dual_from_re;
+  with_re = λ x re. hyper_dual re x.eps1 x.eps2 x.eps1eps2;
+  add = hyper_dual_add;
+  sub = hyper_dual_sub;
+  mul = hyper_dual_mul;
+  div = hyper_dual_div;
+  neg = hyper_dual_neg;
+  mul_float = hyper_dual_mul_float;
+  div_float = hyper_dual_div_float;
+  chain = λ x f0 f1 f2 f3. hyper_dual_chain x f0 f1 f2;
 }
 
 -- four floats a record: re, eps1, eps2, eps1eps2
-abbrev pub hyperDualLayout : Layout HyperDual
-hyperDualLayout = record {
+abbrev pub hyper_dual_layout : Layout HyperDual
+hyper_dual_layout = record {
   width = 4;
   parts = λ x. x.re ∷ x.eps1 ∷ x.eps2 ∷ x.eps1eps2 ∷ [];
-  make = λ part. hyperDual (part 0) (part 1) (part 2) (part 3);
+  make = λ part. hyper_dual (part 0) (part 1) (part 2) (part 3);
 }
 
 -- the records that flat floats hold
-abbrev pub hyperDualRecords : List Float → List HyperDual
-hyperDualRecords l = decode hyperDualLayout l
+abbrev pub hyper_dual_records : List Float → List HyperDual
+hyper_dual_records l = decode hyper_dual_layout l
 
 -- a sine and a cosine
-abbrev pub hyperDualSinCos : HyperDual → HyperDual → HyperDualSinCos
-hyperDualSinCos sin cos = record { sin = sin; cos = cos }
+abbrev pub hyper_dual_sin_cos : HyperDual → HyperDual → HyperDualSinCos
+hyper_dual_sin_cos sin cos = record { sin = sin; cos = cos }
 
 -- document 01's reading of an answer: the record, or the number that it is refused by
 abbrev pub outcome : HyperDualAnswer → Outcome HyperDual

@@ -1,7 +1,7 @@
 // The functions of impl_derivatives.rs, each by its series or its plan; `mul_add` and `powd` are lib.rs's.
 ghost use Rattle.std.specs.Prelude.{◌≡◌};
-ghost use Rattle.derivatives.specs.Apply.{chainBy, smallJ0, smallJ2, besselJ1, besselJ2, runPlan, applyOf, recipOf, sqrtOf, sinOf, cosOf, atan2Of, mulAddOf, powdOf};
-ghost use Rattle.hyperdual.specs.Rules.{hyperDualMulFloat, hyperDualNderiv, hyperDualAlgebra, hyperDualSinCos, outcome};
+ghost use Rattle.derivatives.specs.Apply.{chain_by, small_j0, small_j2, bessel_j1, bessel_j2, run_plan, apply_of, recip_of, sqrt_of, sin_of, cos_of, atan2_of, mul_add_of, powd_of};
+ghost use Rattle.hyperdual.specs.Rules.{hyper_dual_mul_float, hyper_dual_nderiv, hyper_dual_algebra, hyper_dual_sin_cos, outcome};
 
 use crate::{HyperDual, HyperDualAnswer, HyperDualSinCos};
 use derivatives::{Function, Plan, Series};
@@ -9,38 +9,38 @@ use derivatives::{Function, Plan, Series};
 impl HyperDual {
     // The chain rule with as many derivatives of a series as the record carries.
     fn chain(self, s: Series) -> Self
-        ensures { result ≡ chainBy hyperDualAlgebra self s }
+        ensures { result ≡ chain_by hyper_dual_algebra self s }
     {
         self.chain_rule(s.f0, s.f1, s.f2)
     }
 
     pub fn scale(self, factor: f64) -> Self
-        ensures { result ≡ hyperDualMulFloat self factor }
+        ensures { result ≡ hyper_dual_mul_float self factor }
     {
         self.mul_float(factor)
     }
 
     pub fn recip(self) -> Self
-        ensures { result ≡ recipOf hyperDualAlgebra self }
+        ensures { result ≡ recip_of hyper_dual_algebra self }
     {
         self.chain(Series::recip(self.re))
     }
 
     pub fn inv(self) -> Self
-        ensures { result ≡ recipOf hyperDualAlgebra self }
+        ensures { result ≡ recip_of hyper_dual_algebra self }
     {
         self.recip()
     }
 
     pub fn sqrt(self) -> Self
-        ensures { result ≡ sqrtOf hyperDualAlgebra self }
+        ensures { result ≡ sqrt_of hyper_dual_algebra self }
     {
         self.chain(Series::sqrt(self.re))
     }
 
     // `sin` and `cos` are the sine and the cosine of re.
     pub fn sin_cos(self, sin: f64, cos: f64) -> HyperDualSinCos
-        ensures { result ≡ hyperDualSinCos (sinOf hyperDualAlgebra self sin cos) (cosOf hyperDualAlgebra self sin cos) }
+        ensures { result ≡ hyper_dual_sin_cos (sin_of hyper_dual_algebra self sin cos) (cos_of hyper_dual_algebra self sin cos) }
     {
         let s = self.chain(Series::sin(sin, cos));
         let c = self.chain(Series::cos(sin, cos));
@@ -49,7 +49,7 @@ impl HyperDual {
 
     // `atan` is the arctangent of the quotient's real part, `quadrant` the four-quadrant value.
     pub fn atan2(self, other: HyperDual, atan: f64, quadrant: f64) -> Self
-        ensures { result ≡ atan2Of hyperDualAlgebra self other atan quadrant }
+        ensures { result ≡ atan2_of hyper_dual_algebra self other atan quadrant }
     {
         let q = self.div(other);
         let mut res = q.chain(Series::atan(q.re, atan));
@@ -58,14 +58,14 @@ impl HyperDual {
     }
 
     pub fn mul_add(self, a: HyperDual, b: HyperDual) -> Self
-        ensures { result ≡ mulAddOf hyperDualAlgebra self a b }
+        ensures { result ≡ mul_add_of hyper_dual_algebra self a b }
     {
         self.mul(a).add(b)
     }
 
     // Power with hyper-dual exponent: `ln` is the logarithm of re, `exp` the exponential of the product's real part.
     pub fn powd(self, exponent: HyperDual, ln: f64, exp: f64) -> Self
-        ensures { result ≡ powdOf hyperDualAlgebra self exponent ln exp }
+        ensures { result ≡ powd_of hyper_dual_algebra self exponent ln exp }
     {
         self.chain(Series::ln(self.re, ln))
             .mul(exponent)
@@ -74,13 +74,13 @@ impl HyperDual {
 
     // Any function of impl_derivatives.rs, with the outside floats that it needs; sph_j1_series is for records with third derivatives.
     pub fn apply(self, f: Function) -> HyperDualAnswer
-        ensures { outcome result ≡ applyOf hyperDualAlgebra hyperDualNderiv self f }
+        ensures { outcome result ≡ apply_of hyper_dual_algebra hyper_dual_nderiv self f }
     {
         self.run(derivatives::choose(self.re, f))
     }
 
     fn run(self, p: Plan) -> HyperDualAnswer
-        ensures { outcome result ≡ runPlan hyperDualAlgebra hyperDualNderiv self p }
+        ensures { outcome result ≡ run_plan hyper_dual_algebra hyper_dual_nderiv self p }
     {
         match p {
             Plan::Refused(n) => HyperDualAnswer::Refused(n),
@@ -106,25 +106,25 @@ impl HyperDual {
     }
 
     fn small_j0(self) -> Self
-        ensures { result ≡ smallJ0 hyperDualAlgebra self }
+        ensures { result ≡ small_j0 hyper_dual_algebra self }
     {
         Self::ONE.sub(self.mul(self).div_float(6.0))
     }
 
     fn small_j2(self) -> Self
-        ensures { result ≡ smallJ2 hyperDualAlgebra self }
+        ensures { result ≡ small_j2 hyper_dual_algebra self }
     {
         self.mul(self).div_float(15.0)
     }
 
     fn bessel_j1(self, s: HyperDual, c: HyperDual) -> Self
-        ensures { result ≡ besselJ1 hyperDualAlgebra self s c }
+        ensures { result ≡ bessel_j1 hyper_dual_algebra self s c }
     {
         s.sub(self.mul(c)).div(self.mul(self))
     }
 
     fn bessel_j2(self, s: HyperDual, c: HyperDual) -> Self
-        ensures { result ≡ besselJ2 hyperDualAlgebra self s c }
+        ensures { result ≡ bessel_j2 hyper_dual_algebra self s c }
     {
         let s2 = self.mul(self);
         s.sub(self.mul(c))

@@ -5,7 +5,7 @@ mod operations;
 mod records;
 
 ghost use Rattle.std.specs.Prelude.{◌≡◌};
-ghost use Rattle.hyperdual.specs.Rules.{hyperDual, hyperDualDerivative1, hyperDualDerivative2, hyperDualFromRe, hyperDualChain, hyperDualMul, hyperDualDiv};
+ghost use Rattle.hyperdual.specs.Rules.{hyper_dual, hyper_dual_derivative1, hyper_dual_derivative2, hyper_dual_from_re, hyper_dual_chain, hyper_dual_mul, hyper_dual_div};
 
 pub use records::{product, read, sum, write};
 
@@ -55,7 +55,7 @@ impl HyperDual {
 
     // Create a new hyper-dual number from its fields.
     pub fn new(re: f64, eps1: f64, eps2: f64, eps1eps2: f64) -> Self
-        ensures { result ≡ hyperDual re eps1 eps2 eps1eps2 }
+        ensures { result ≡ hyper_dual re eps1 eps2 eps1eps2 }
     {
         Self {
             re,
@@ -67,7 +67,7 @@ impl HyperDual {
 
     // Set the partial derivative part w.r.t. the 1st variable to 1.
     pub fn derivative1(mut self) -> Self
-        ensures { result ≡ hyperDualDerivative1 self }
+        ensures { result ≡ hyper_dual_derivative1 self }
     {
         self.eps1 = 1.0;
         self
@@ -75,7 +75,7 @@ impl HyperDual {
 
     // Set the partial derivative part w.r.t. the 2nd variable to 1.
     pub fn derivative2(mut self) -> Self
-        ensures { result ≡ hyperDualDerivative2 self }
+        ensures { result ≡ hyper_dual_derivative2 self }
     {
         self.eps2 = 1.0;
         self
@@ -83,7 +83,7 @@ impl HyperDual {
 
     // Create a new hyper-dual number from the real part.
     pub fn from_re(re: f64) -> Self
-        ensures { result ≡ hyperDualFromRe re }
+        ensures { result ≡ hyper_dual_from_re re }
     {
         Self {
             re,
@@ -95,7 +95,7 @@ impl HyperDual {
 
     /* chain rule */
     fn chain_rule(self, f0: f64, f1: f64, f2: f64) -> Self
-        ensures { result ≡ hyperDualChain self f0 f1 f2 }
+        ensures { result ≡ hyper_dual_chain self f0 f1 f2 }
     {
         Self {
             re: f0,
@@ -107,7 +107,7 @@ impl HyperDual {
 
     /* product rule */
     pub fn mul(self, other: HyperDual) -> Self
-        ensures { result ≡ hyperDualMul self other }
+        ensures { result ≡ hyper_dual_mul self other }
     {
         Self {
             re: self.re * other.re,
@@ -122,7 +122,7 @@ impl HyperDual {
 
     /* quotient rule */
     pub fn div(self, other: HyperDual) -> Self
-        ensures { result ≡ hyperDualDiv self other }
+        ensures { result ≡ hyper_dual_div self other }
     {
         let inv = 1.0 / other.re;
         let inv2 = inv * inv;

@@ -3,15 +3,15 @@ ghost use Rattle.std.specs.Prelude.{◌≡◌, not};
 ghost use Rattle.std.specs.Float.Ieee.{lt, le, eq};
 ghost use Rattle.real.specs.Operations.{zero, one};
 ghost use Rattle.real.specs.Sign.{sign_of};
-ghost use Rattle.algebra.specs.Algebra.{zero_of, one_of, addFloat, subFloat, magnitude};
-ghost use Rattle.derivatives.specs.Apply.{absSubOf, signumOf};
-ghost use Rattle.hyperdual.specs.Rules.{hyperDualAdd, hyperDualSub, hyperDualNeg, hyperDualMulFloat, hyperDualDivFloat, hyperDualNderiv, hyperDualAlgebra};
+ghost use Rattle.algebra.specs.Algebra.{zero_of, one_of, add_float, sub_float, magnitude};
+ghost use Rattle.derivatives.specs.Apply.{abs_sub_of, signum_of};
+ghost use Rattle.hyperdual.specs.Rules.{hyper_dual_add, hyper_dual_sub, hyper_dual_neg, hyper_dual_mul_float, hyper_dual_div_float, hyper_dual_nderiv, hyper_dual_algebra};
 
 use crate::HyperDual;
 
 impl HyperDual {
     pub fn zero() -> Self
-        ensures { result ≡ zero_of hyperDualAlgebra }
+        ensures { result ≡ zero_of hyper_dual_algebra }
     {
         Self::ZERO
     }
@@ -23,7 +23,7 @@ impl HyperDual {
     }
 
     pub fn one() -> Self
-        ensures { result ≡ one_of hyperDualAlgebra }
+        ensures { result ≡ one_of hyper_dual_algebra }
     {
         Self::ONE
     }
@@ -35,13 +35,13 @@ impl HyperDual {
     }
 
     pub fn nderiv() -> usize
-        ensures { result ≡ hyperDualNderiv }
+        ensures { result ≡ hyper_dual_nderiv }
     {
         Self::NDERIV
     }
 
     pub fn add(self, other: HyperDual) -> Self
-        ensures { result ≡ hyperDualAdd self other }
+        ensures { result ≡ hyper_dual_add self other }
     {
         Self {
             re: self.re + other.re,
@@ -52,7 +52,7 @@ impl HyperDual {
     }
 
     pub fn sub(self, other: HyperDual) -> Self
-        ensures { result ≡ hyperDualSub self other }
+        ensures { result ≡ hyper_dual_sub self other }
     {
         Self {
             re: self.re - other.re,
@@ -63,7 +63,7 @@ impl HyperDual {
     }
 
     pub fn neg(self) -> Self
-        ensures { result ≡ hyperDualNeg self }
+        ensures { result ≡ hyper_dual_neg self }
     {
         Self {
             re: -self.re,
@@ -74,7 +74,7 @@ impl HyperDual {
     }
 
     pub fn mul_float(self, other: f64) -> Self
-        ensures { result ≡ hyperDualMulFloat self other }
+        ensures { result ≡ hyper_dual_mul_float self other }
     {
         Self {
             re: self.re * other,
@@ -85,7 +85,7 @@ impl HyperDual {
     }
 
     pub fn div_float(self, other: f64) -> Self
-        ensures { result ≡ hyperDualDivFloat self other }
+        ensures { result ≡ hyper_dual_div_float self other }
     {
         Self {
             re: self.re / other,
@@ -96,14 +96,14 @@ impl HyperDual {
     }
 
     pub fn add_float(mut self, other: f64) -> Self
-        ensures { result ≡ addFloat hyperDualAlgebra self other }
+        ensures { result ≡ add_float hyper_dual_algebra self other }
     {
         self.re = self.re + other;
         self
     }
 
     pub fn sub_float(mut self, other: f64) -> Self
-        ensures { result ≡ subFloat hyperDualAlgebra self other }
+        ensures { result ≡ sub_float hyper_dual_algebra self other }
     {
         self.re = self.re - other;
         self
@@ -111,7 +111,7 @@ impl HyperDual {
 
     // x where the sign bit of re is clear, else -x.
     pub fn abs(self) -> Self
-        ensures { result ≡ magnitude hyperDualAlgebra self }
+        ensures { result ≡ magnitude hyper_dual_algebra self }
     {
         if real::is_negative(self.re) {
             self.neg()
@@ -121,7 +121,7 @@ impl HyperDual {
     }
 
     pub fn abs_sub(self, other: HyperDual) -> Self
-        ensures { result ≡ absSubOf hyperDualAlgebra self other }
+        ensures { result ≡ abs_sub_of hyper_dual_algebra self other }
     {
         if self.re > other.re {
             self.sub(other)
@@ -131,7 +131,7 @@ impl HyperDual {
     }
 
     pub fn signum(self) -> Self
-        ensures { result ≡ signumOf hyperDualAlgebra self }
+        ensures { result ≡ signum_of hyper_dual_algebra self }
     {
         if real::is_negative(self.re) {
             if self.re == 0.0 {

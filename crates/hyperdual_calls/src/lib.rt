@@ -1,10 +1,10 @@
 // Calls over `HyperDual`: four words a record, re, eps1, eps2 and eps1eps2.
 ghost use Rattle.std.specs.Prelude.{◌≡◌, ◌++◌, ◌+◌, length};
-ghost use Rattle.algebra.specs.Outcome.{mapOutcome};
-ghost use Rattle.hyperdual.specs.Rules.{hyperDualLayout, outcome};
+ghost use Rattle.algebra.specs.Outcome.{map_outcome};
+ghost use Rattle.hyperdual.specs.Rules.{hyper_dual_layout, outcome};
 ghost use Rattle.floats.specs.Words.{words_of};
-ghost use Rattle.calls.specs.Called.{Sized, unaryOf, binaryOf, byFloatOf, operateOf, answer_of, leaves, calledOf, operatedOf, joinedLeft, summedOf, multipliedOf};
-ghost use Rattle.hyperdual_calls.specs.Kind.{hyperDualKind, hyperDualDerivatives};
+ghost use Rattle.calls.specs.Called.{Sized, unary_of, binary_of, by_float_of, operate_of, answer_of, leaves, called_of, operated_of, joined_left, summed_of, multiplied_of};
+ghost use Rattle.hyperdual_calls.specs.Kind.{hyper_dual_kind, hyper_dual_derivatives};
 
 use calls::{Binary, ByFloat, Call, Operation, Unary, predicates, table};
 use floats::words;
@@ -14,7 +14,7 @@ const WIDTH: usize = 4;
 
 // `derivative` and its kin by function number; no other number is one of them.
 fn derivative(function: u32, x: HyperDual) -> HyperDualAnswer
-    ensures { outcome result ≡ hyperDualDerivatives function x }
+    ensures { outcome result ≡ hyper_dual_derivatives function x }
 {
     match function {
         0x06 => HyperDualAnswer::Value(x.derivative1()),
@@ -24,7 +24,7 @@ fn derivative(function: u32, x: HyperDual) -> HyperDualAnswer
 }
 
 fn unary(op: Unary, x: HyperDual) -> HyperDual
-    ensures { result ≡ unaryOf hyperDualKind op x }
+    ensures { result ≡ unary_of hyper_dual_kind op x }
 {
     match op {
         Unary::Neg => x.neg(),
@@ -34,7 +34,7 @@ fn unary(op: Unary, x: HyperDual) -> HyperDual
 }
 
 fn binary(op: Binary, x: HyperDual, y: HyperDual) -> HyperDual
-    ensures { result ≡ binaryOf hyperDualKind op x y }
+    ensures { result ≡ binary_of hyper_dual_kind op x y }
 {
     match op {
         Binary::Add => x.add(y),
@@ -46,7 +46,7 @@ fn binary(op: Binary, x: HyperDual, y: HyperDual) -> HyperDual
 }
 
 fn by_float(op: ByFloat, x: HyperDual, f: f64) -> HyperDual
-    ensures { result ≡ byFloatOf hyperDualKind op x f }
+    ensures { result ≡ by_float_of hyper_dual_kind op x f }
 {
     match op {
         ByFloat::Mul => x.mul_float(f),
@@ -58,7 +58,7 @@ fn by_float(op: ByFloat, x: HyperDual, f: f64) -> HyperDual
 
 // What gives one record.
 fn operate(op: Operation, x: HyperDual, y: HyperDual, z: HyperDual) -> HyperDualAnswer
-    ensures { outcome result ≡ operateOf hyperDualKind op x y z }
+    ensures { outcome result ≡ operate_of hyper_dual_kind op x y z }
 {
     match op {
         Operation::FromRe(re) => HyperDualAnswer::Value(HyperDual::from_re(re)),
@@ -78,8 +78,8 @@ fn operate(op: Operation, x: HyperDual, y: HyperDual, z: HyperDual) -> HyperDual
 
 // A record's words to out, or its refusal.
 fn leave(answer: HyperDualAnswer, out: &mut [u64]) -> u32
-    requires { length out.old ≡ hyperDualLayout.width }
-    ensures { (result, out.new) ≡ leaves (mapOutcome words_of (mapOutcome hyperDualLayout.parts (outcome answer))) out.old }
+    requires { length out.old ≡ hyper_dual_layout.width }
+    ensures { (result, out.new) ≡ leaves (map_outcome words_of (map_outcome hyper_dual_layout.parts (outcome answer))) out.old }
 {
     match answer {
         HyperDualAnswer::Value(x) => {
@@ -94,8 +94,8 @@ fn leave(answer: HyperDualAnswer, out: &mut [u64]) -> u32
 
 // The words of two records to out.
 fn leave_both(answer: HyperDualSinCos, out: &mut [u64])
-    requires { length out.old ≡ hyperDualLayout.width + hyperDualLayout.width }
-    ensures { out.new ≡ words_of (hyperDualLayout.parts answer.sin ++ hyperDualLayout.parts answer.cos) }
+    requires { length out.old ≡ hyper_dual_layout.width + hyper_dual_layout.width }
+    ensures { out.new ≡ words_of (hyper_dual_layout.parts answer.sin ++ hyper_dual_layout.parts answer.cos) }
 {
     let s = answer.sin;
     let c = answer.cos;
@@ -107,8 +107,8 @@ fn leave_both(answer: HyperDualSinCos, out: &mut [u64])
 
 // What a call leaves, where out has its size.
 fn run(call: Call, x: HyperDual, y: HyperDual, z: HyperDual, out: &mut [u64]) -> u32
-    requires { Sized hyperDualLayout.width (length out.old) call }
-    ensures { (result, out.new) ≡ leaves (mapOutcome words_of (answer_of hyperDualKind call x y z)) out.old }
+    requires { Sized hyper_dual_layout.width (length out.old) call }
+    ensures { (result, out.new) ≡ leaves (map_outcome words_of (answer_of hyper_dual_kind call x y z)) out.old }
 {
     match call {
         Call::Unknown => refusals::WRONG_LENGTH,
@@ -126,7 +126,7 @@ fn run(call: Call, x: HyperDual, y: HyperDual, z: HyperDual, out: &mut [u64]) ->
 
 // A call by function number: 0, or the number that it is refused by with nothing written.
 pub fn call(function: u32, exponent: i32, records: &[u64], floats: &[u64], out: &mut [u64]) -> u32
-    ensures { (result, out.new) ≡ calledOf hyperDualKind function exponent records.now floats.now out.old }
+    ensures { (result, out.new) ≡ called_of hyper_dual_kind function exponent records.now floats.now out.old }
 {
     let call = table::call_of(WIDTH, function, exponent, records.len(), floats, out.len());
     let mut lent = [0.0; 3 * WIDTH];
@@ -139,7 +139,7 @@ pub fn call(function: u32, exponent: i32, records: &[u64], floats: &[u64], out: 
 
 // An operation on two records, without the table: what `call` leaves for its number and no floats.
 pub fn operator(op: Binary, records: &[u64], out: &mut [u64]) -> u32
-    ensures { (result, out.new) ≡ operatedOf hyperDualKind op records.now out.old }
+    ensures { (result, out.new) ≡ operated_of hyper_dual_kind op records.now out.old }
 {
     if records.len() != 2 * WIDTH {
         return refusals::WRONG_LENGTH;
@@ -156,7 +156,7 @@ pub fn operator(op: Binary, records: &[u64], out: &mut [u64]) -> u32
 
 // A record's parts to out, or its refusal.
 fn leave_floats(answer: HyperDualAnswer, out: &mut [f64]) -> u32
-    ensures { (result, out.new) ≡ joinedLeft hyperDualKind (outcome answer) out.old }
+    ensures { (result, out.new) ≡ joined_left hyper_dual_kind (outcome answer) out.old }
 {
     if out.len() != WIDTH {
         return refusals::WRONG_LENGTH;
@@ -172,14 +172,14 @@ fn leave_floats(answer: HyperDualAnswer, out: &mut [f64]) -> u32
 
 // The sum of the records of a run.
 pub fn sum(run: &[f64], out: &mut [f64]) -> u32
-    ensures { (result, out.new) ≡ summedOf hyperDualKind run.now out.old }
+    ensures { (result, out.new) ≡ summed_of hyper_dual_kind run.now out.old }
 {
     leave_floats(hyperdual::sum(run), out)
 }
 
 // The product of the records of a run.
 pub fn product(run: &[f64], out: &mut [f64]) -> u32
-    ensures { (result, out.new) ≡ multipliedOf hyperDualKind run.now out.old }
+    ensures { (result, out.new) ≡ multiplied_of hyper_dual_kind run.now out.old }
 {
     leave_floats(hyperdual::product(run), out)
 }

@@ -1,12 +1,12 @@
 // LU column by column, and the determinant.
 // Inner: for `hyperdual_lu`, which has the entries. Its functions have a `requires`, which that crate shows.
 ghost use Rattle.std.specs.Prelude.{◌≡◌, ◌+◌, ◌*◌, ◌<◌, ◌≤◌, length};
-ghost use Rattle.hyperdual.specs.Rules.{hyperDualAlgebra, hyperDualLayout, hyperDualRecords, outcome};
+ghost use Rattle.hyperdual.specs.Rules.{hyper_dual_algebra, hyper_dual_layout, hyper_dual_records, outcome};
 ghost use Rattle.matrices.specs.Matrix.{Square, RowPlace, cell};
-ghost use Rattle.matrices.specs.Lu.{going, subtractMultiple, subtractRow, reduceRow, reduce, column, countUp, luOf};
-ghost use Rattle.matrices.specs.RunAfter.{runAfter, swapsOf};
+ghost use Rattle.matrices.specs.Lu.{going, subtract_multiple, subtract_row, reduce_row, reduce, column, count_up, lu_of};
+ghost use Rattle.matrices.specs.RunAfter.{run_after, swaps_of};
 ghost use Rattle.matrices.specs.Determinant.{signed};
-ghost use Rattle.matrices.specs.Entries.{determinantLeft};
+ghost use Rattle.matrices.specs.Entries.{determinant_left};
 
 use hyperdual::{HyperDual, HyperDualAnswer};
 use matrices::AfterColumn;
@@ -15,7 +15,7 @@ use orders::Marks;
 // Record `to` less x times record `from`.
 fn subtract_record(a: &mut [f64], to: usize, from: usize, x: HyperDual)
     requires { (to * 4 + 3 < length a.old) × (from * 4 + 3 < length a.old) }
-    ensures { hyperDualRecords a.new ≡ subtractMultiple hyperDualAlgebra to from x (hyperDualRecords a.old) }
+    ensures { hyper_dual_records a.new ≡ subtract_multiple hyper_dual_algebra to from x (hyper_dual_records a.old) }
 {
     let u = hyperdual::read(a, to);
     let v = hyperdual::read(a, from);
@@ -26,8 +26,8 @@ fn subtract_record(a: &mut [f64], to: usize, from: usize, x: HyperDual)
 fn subtract_row(n: usize, a: &mut [f64], i: usize, j: usize, x: HyperDual)
     requires row_place { RowPlace 4 n i a.old }
     requires row_place_2 { RowPlace 4 n j a.old }
-    requires i_value { cell hyperDualAlgebra n (hyperDualRecords a.old) j i ≡ x }
-    ensures { hyperDualRecords a.new ≡ subtractRow hyperDualAlgebra n i j (hyperDualRecords a.old) }
+    requires i_value { cell hyper_dual_algebra n (hyper_dual_records a.old) j i ≡ x }
+    ensures { hyper_dual_records a.new ≡ subtract_row hyper_dual_algebra n i j (hyper_dual_records a.old) }
 {
     let to = j * n;
     let from = i * n;
@@ -40,7 +40,7 @@ fn subtract_row(n: usize, a: &mut [f64], i: usize, j: usize, x: HyperDual)
 fn reduce_row(n: usize, a: &mut [f64], i: usize, j: usize)
     requires row_place { RowPlace 4 n i a.old }
     requires row_place_2 { RowPlace 4 n j a.old }
-    ensures { hyperDualRecords a.new ≡ reduceRow hyperDualAlgebra n i j (hyperDualRecords a.old) }
+    ensures { hyper_dual_records a.new ≡ reduce_row hyper_dual_algebra n i j (hyper_dual_records a.old) }
 {
     let at = j * n + i;
     let x = hyperdual::read(a, at).div(hyperdual::read(a, i * n + i));
@@ -52,7 +52,7 @@ fn reduce_row(n: usize, a: &mut [f64], i: usize, j: usize)
 fn reduce_rows(n: usize, a: &mut [f64], i: usize)
     requires square { Square 4 n a.old }
     requires i_lt_n { i < n }
-    ensures { hyperDualRecords a.new ≡ reduce hyperDualAlgebra n i (hyperDualRecords a.old) }
+    ensures { hyper_dual_records a.new ≡ reduce hyper_dual_algebra n i (hyper_dual_records a.old) }
 {
     for j in i + 1..n {
         reduce_row(n, a, i, j);
@@ -65,8 +65,8 @@ fn run_column(n: usize, a: &mut [f64], order: &mut [usize], i: usize, swaps: usi
     requires order_len { length order.old ≡ n }
     requires i_lt_n { i < n }
     requires swaps_le_i { swaps ≤ i }
-    ensures result_bound { swapsOf result ≤ i + 1 }
-    ensures swaps_value { column hyperDualAlgebra n i (going (hyperDualRecords a.old) order.old swaps) ≡ runAfter result (hyperDualRecords a.new) order.new }
+    ensures result_bound { swaps_of result ≤ i + 1 }
+    ensures swaps_value { column hyper_dual_algebra n i (going (hyper_dual_records a.old) order.old swaps) ≡ run_after result (hyper_dual_records a.new) order.new }
 {
     let s = matrices::rows::bring_pivot(4, n, a, order, i, swaps);
     let AfterColumn::Going { swaps: t } = s else {
@@ -79,8 +79,8 @@ fn run_column(n: usize, a: &mut [f64], order: &mut [usize], i: usize, swaps: usi
 // Every column in turn, from the matrix in a and the order 0, 1, .., n - 1.
 pub fn run_columns(n: usize, a: &mut [f64], order: &mut [usize]) -> AfterColumn
     requires square { Square 4 n a.old }
-    requires order_value { order.old ≡ countUp n }
-    ensures { luOf hyperDualAlgebra n (hyperDualRecords a.old) ≡ runAfter result (hyperDualRecords a.new) order.new }
+    requires order_value { order.old ≡ count_up n }
+    ensures { lu_of hyper_dual_algebra n (hyper_dual_records a.old) ≡ run_after result (hyper_dual_records a.new) order.new }
 {
     let mut swaps = 0;
     for i in 0..n {
@@ -95,7 +95,7 @@ pub fn run_columns(n: usize, a: &mut [f64], order: &mut [usize]) -> AfterColumn
 
 // Negated where the count is odd.
 fn signed(x: HyperDual, swaps: usize) -> HyperDual
-    ensures { result ≡ signed hyperDualAlgebra swaps x }
+    ensures { result ≡ signed hyper_dual_algebra swaps x }
 {
     if swaps % 2 == 1 {
         return x.neg();
@@ -107,7 +107,7 @@ fn signed(x: HyperDual, swaps: usize) -> HyperDual
 pub fn determinant_of(n: usize, a: &[f64], order: &[usize], swaps: usize) -> HyperDualAnswer
     requires square { Square 4 n a.now }
     requires order_len { length order.now ≡ n }
-    ensures { outcome result ≡ determinantLeft hyperDualAlgebra hyperDualLayout n a.now order.now swaps }
+    ensures { outcome result ≡ determinant_left hyper_dual_algebra hyper_dual_layout n a.now order.now swaps }
 {
     let mut m = Marks {
         word: 0,

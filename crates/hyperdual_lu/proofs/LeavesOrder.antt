@@ -2,25 +2,25 @@
 -- below n occurs in it. And of the contracts together: 7 and 8 never refuse what LU left, so that solve, inverse and determinant with its factors, its order and its
 -- swap count are done. Assumes nothing.
 use Rattle.hyperdual.specs.Rules.{outcome}
-use Rattle.matrices.specs.Answers.{luOutcome, luColumn, solveOutcome}
-use Rattle.matrices.proofs.Calls.{LuLeavesOrder, LuEveryRow, leaves-order-by, every-row-by, SolveAfterLu, solve-after-lu-by, InverseAfterLu, inverse-after-lu-by, DeterminantAfterLu, determinant-after-lu-by}
-use Rattle.hyperdual.proofs.Flat.{hyper-dual-laws}
+use Rattle.matrices.specs.Answers.{lu_outcome, lu_column, solve_outcome}
+use Rattle.matrices.proofs.Calls.{LuLeavesOrder, LuEveryRow, leaves_order_by, every_row_by, SolveAfterLu, solve_after_lu_by, InverseAfterLu, inverse_after_lu_by, DeterminantAfterLu, determinant_after_lu_by}
+use Rattle.hyperdual.proofs.Flat.{hyper_dual_laws}
 use Rattle.hyperdual_lu.proofs.lu as lu
 use Rattle.hyperdual_lu.proofs.solve as solve
 use Rattle.hyperdual_lu.proofs.determinant as determinant
 use Rattle.hyperdual_lu.proofs.inverse as inverse
 
-pub leaves-order : LuLeavesOrder lu.Kinds.r (λ κs x. luOutcome x) (λ κs x. luColumn x) lu.Reads.Post
-leaves-order = leaves-order-by lu.Kinds.r (λ κs x. luOutcome x) (λ κs x. luColumn x) hyper-dual-laws
+pub leaves_order : LuLeavesOrder lu.Kinds.r (λ κs x. lu_outcome x) (λ κs x. lu_column x) lu.Reads.Post
+leaves_order = leaves_order_by lu.Kinds.r (λ κs x. lu_outcome x) (λ κs x. lu_column x) hyper_dual_laws
 
-pub every-row-occurs : LuEveryRow lu.Kinds.r (λ κs x. luOutcome x) (λ κs x. luColumn x) lu.Reads.Post
-every-row-occurs = every-row-by lu.Kinds.r (λ κs x. luOutcome x) (λ κs x. luColumn x) hyper-dual-laws
+pub every_row_occurs : LuEveryRow lu.Kinds.r (λ κs x. lu_outcome x) (λ κs x. lu_column x) lu.Reads.Post
+every_row_occurs = every_row_by lu.Kinds.r (λ κs x. lu_outcome x) (λ κs x. lu_column x) hyper_dual_laws
 
-pub solve-after-lu : SolveAfterLu lu.Kinds.r (λ κs x. luOutcome x) (λ κs x. luColumn x) solve.Kinds.r (λ κs x. solveOutcome x) 4 lu.Reads.Post solve.Reads.Post
-solve-after-lu = solve-after-lu-by lu.Kinds.r (λ κs x. luOutcome x) (λ κs x. luColumn x) solve.Kinds.r (λ κs x. solveOutcome x) hyper-dual-laws
+pub solve_after_lu : SolveAfterLu lu.Kinds.r (λ κs x. lu_outcome x) (λ κs x. lu_column x) solve.Kinds.r (λ κs x. solve_outcome x) 4 lu.Reads.Post solve.Reads.Post
+solve_after_lu = solve_after_lu_by lu.Kinds.r (λ κs x. lu_outcome x) (λ κs x. lu_column x) solve.Kinds.r (λ κs x. solve_outcome x) hyper_dual_laws
 
-pub inverse-after-lu : InverseAfterLu lu.Kinds.r (λ κs x. luOutcome x) (λ κs x. luColumn x) inverse.Kinds.r (λ κs x. solveOutcome x) 4 lu.Reads.Post inverse.Reads.Post
-inverse-after-lu = inverse-after-lu-by lu.Kinds.r (λ κs x. luOutcome x) (λ κs x. luColumn x) inverse.Kinds.r (λ κs x. solveOutcome x) hyper-dual-laws
+pub inverse_after_lu : InverseAfterLu lu.Kinds.r (λ κs x. lu_outcome x) (λ κs x. lu_column x) inverse.Kinds.r (λ κs x. solve_outcome x) 4 lu.Reads.Post inverse.Reads.Post
+inverse_after_lu = inverse_after_lu_by lu.Kinds.r (λ κs x. lu_outcome x) (λ κs x. lu_column x) inverse.Kinds.r (λ κs x. solve_outcome x) hyper_dual_laws
 
-pub determinant-after-lu : DeterminantAfterLu lu.Kinds.r (λ κs x. luOutcome x) (λ κs x. luColumn x) determinant.Kinds.r (λ κs x. outcome x) lu.Reads.Post determinant.Reads.Post
-determinant-after-lu = determinant-after-lu-by lu.Kinds.r (λ κs x. luOutcome x) (λ κs x. luColumn x) determinant.Kinds.r (λ κs x. outcome x) hyper-dual-laws
+pub determinant_after_lu : DeterminantAfterLu lu.Kinds.r (λ κs x. lu_outcome x) (λ κs x. lu_column x) determinant.Kinds.r (λ κs x. outcome x) lu.Reads.Post determinant.Reads.Post
+determinant_after_lu = determinant_after_lu_by lu.Kinds.r (λ κs x. lu_outcome x) (λ κs x. lu_column x) determinant.Kinds.r (λ κs x. outcome x) hyper_dual_laws

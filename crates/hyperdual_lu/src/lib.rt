@@ -1,11 +1,11 @@
 // LU, solve, determinant and inverse of matrices of `HyperDual` in lent floats: linalg.rs. Matrices lie row by row, the record at row r and column c at
 // (r * n + c) * 4, real part first. n is 0 to 32. A call that is refused by its number writes nothing, but for 6 (see `lu`).
 ghost use Rattle.std.specs.Prelude.{◌≡◌, length};
-ghost use Rattle.hyperdual.specs.Rules.{hyperDualAlgebra, hyperDualLayout, hyperDualRecords, outcome};
+ghost use Rattle.hyperdual.specs.Rules.{hyper_dual_algebra, hyper_dual_layout, hyper_dual_records, outcome};
 ghost use Rattle.matrices.specs.Matrix.{Square};
-ghost use Rattle.matrices.specs.Lu.{luOf};
-ghost use Rattle.matrices.specs.Entries.{luAnswered, solveAnswered, luFinish, luLeft, solveLeft, inverseLeft, determinantLeft};
-ghost use Rattle.matrices.specs.Answers.{luOutcome, luColumn, solveOutcome};
+ghost use Rattle.matrices.specs.Lu.{lu_of};
+ghost use Rattle.matrices.specs.Entries.{lu_answered, solve_answered, lu_finish, lu_left, solve_left, inverse_left, determinant_left};
+ghost use Rattle.matrices.specs.Answers.{lu_outcome, lu_column, solve_outcome};
 
 use hyperdual::HyperDualAnswer;
 use matrices::AfterColumn;
@@ -16,7 +16,7 @@ fn factor(n: usize, a: &[f64], factors: &mut [f64], order: &mut [usize]) -> LuAn
     requires square { Square 4 n a.now }
     requires square_2 { Square 4 n factors.old }
     requires order_len { length order.old ≡ n }
-    ensures { luAnswered (luOutcome result) (luColumn result) factors.new order.new ≡ luFinish hyperDualAlgebra hyperDualLayout n (luOf hyperDualAlgebra n (hyperDualRecords a.now)) }
+    ensures { lu_answered (lu_outcome result) (lu_column result) factors.new order.new ≡ lu_finish hyper_dual_algebra hyper_dual_layout n (lu_of hyper_dual_algebra n (hyper_dual_records a.now)) }
 {
     floats::copy(a, factors);
     matrices::order::count_up(order);
@@ -36,7 +36,7 @@ fn factor(n: usize, a: &[f64], factors: &mut [f64], order: &mut [usize]) -> LuAn
 
 // The factors of a and the order of its rows: `LU::new`. Refused: 1, 2; 6 with the column in which no pivot exceeds zero, factors all +0.0 and order all 0.
 pub fn lu(n: usize, a: &[f64], factors: &mut [f64], order: &mut [usize]) -> LuAnswer
-    ensures { luAnswered (luOutcome result) (luColumn result) factors.new order.new ≡ luLeft hyperDualAlgebra hyperDualLayout n a.now factors.old order.old }
+    ensures { lu_answered (lu_outcome result) (lu_column result) factors.new order.new ≡ lu_left hyper_dual_algebra hyper_dual_layout n a.now factors.old order.old }
 {
     let number = matrices::refusal::lu(4, n, a.len(), factors.len(), order.len());
     if number != 0 {
@@ -47,7 +47,7 @@ pub fn lu(n: usize, a: &[f64], factors: &mut [f64], order: &mut [usize]) -> LuAn
 
 // x with a * x = b, from the factors and the order of a. Refused: 1, 2, 7.
 pub fn solve(n: usize, factors: &[f64], order: &[usize], b: &[f64], x: &mut [f64]) -> SolveAnswer
-    ensures { solveAnswered (solveOutcome result) x.new ≡ solveLeft hyperDualAlgebra hyperDualLayout n factors.now order.now b.now x.old }
+    ensures { solve_answered (solve_outcome result) x.new ≡ solve_left hyper_dual_algebra hyper_dual_layout n factors.now order.now b.now x.old }
 {
     let number = matrices::refusal::solve(4, n, factors.len(), order, b.len(), x.len());
     if number != 0 {
@@ -59,7 +59,7 @@ pub fn solve(n: usize, factors: &[f64], order: &[usize], b: &[f64], x: &mut [f64
 
 // The determinant, from the factors, the order and the swap count. Refused: 1, 2, 7, 8.
 pub fn determinant(n: usize, factors: &[f64], order: &[usize], swaps: usize) -> HyperDualAnswer
-    ensures { outcome result ≡ determinantLeft hyperDualAlgebra hyperDualLayout n factors.now order.now swaps }
+    ensures { outcome result ≡ determinant_left hyper_dual_algebra hyper_dual_layout n factors.now order.now swaps }
 {
     let number = matrices::refusal::determinant(4, n, factors.len(), order.len());
     if number != 0 {
@@ -70,7 +70,7 @@ pub fn determinant(n: usize, factors: &[f64], order: &[usize], swaps: usize) -> 
 
 // The inverse, from the factors and the order. Refused: 1, 2, 7.
 pub fn inverse(n: usize, factors: &[f64], order: &[usize], out: &mut [f64]) -> SolveAnswer
-    ensures { solveAnswered (solveOutcome result) out.new ≡ inverseLeft hyperDualAlgebra hyperDualLayout n factors.now order.now out.old }
+    ensures { solve_answered (solve_outcome result) out.new ≡ inverse_left hyper_dual_algebra hyper_dual_layout n factors.now order.now out.old }
 {
     let number = matrices::refusal::inverse(4, n, factors.len(), order, out.len());
     if number != 0 {

@@ -2,10 +2,10 @@
 // The vector's element i is record i * stride + base of x: all of x (1, 0), or a column of a matrix (n, j).
 // Inner: for `hyperdual_lu`, which has the entries. Its functions have a `requires`, which that crate shows.
 ghost use Rattle.std.specs.Prelude.{◌≡◌, ◌+◌, ◌*◌, ◌<◌, ◌≤◌, length};
-ghost use Rattle.hyperdual.specs.Rules.{hyperDualAlgebra, hyperDualRecords};
+ghost use Rattle.hyperdual.specs.Rules.{hyper_dual_algebra, hyper_dual_records};
 ghost use Rattle.matrices.specs.Matrix.{Square, RowPlace};
-ghost use Rattle.matrices.specs.Solve.{Strided, lessProduct, lessRow, forwardRowFrom, forwardFrom, backRow, back, substituteFrom, solveStarts, solveOf};
-ghost use Rattle.matrices.specs.Inverse.{units, inverseOf};
+ghost use Rattle.matrices.specs.Solve.{Strided, less_product, less_row, forward_row_from, forward_from, back_row, back, substitute_from, solve_starts, solve_of};
+ghost use Rattle.matrices.specs.Inverse.{units, inverse_of};
 ghost use Rattle.orders.specs.Order.{Order};
 
 use hyperdual::HyperDual;
@@ -13,7 +13,7 @@ use hyperdual::HyperDual;
 // v less record p of a times record q of x.
 fn less_product(v: HyperDual, a: &[f64], p: usize, x: &[f64], q: usize) -> HyperDual
     requires { (p * 4 + 3 < length a.now) × (q * 4 + 3 < length x.now) }
-    ensures { result ≡ lessProduct hyperDualAlgebra v (hyperDualRecords a.now) p (hyperDualRecords x.now) q }
+    ensures { result ≡ less_product hyper_dual_algebra v (hyper_dual_records a.now) p (hyper_dual_records x.now) q }
 {
     v.sub(hyperdual::read(a, p).mul(hyperdual::read(x, q)))
 }
@@ -33,7 +33,7 @@ fn less_row(
     requires row_place { RowPlace 4 n i a.now }
     requires strided { Strided 4 n stride base x.now }
     requires hi_le_n { hi ≤ n }
-    ensures { result ≡ lessRow hyperDualAlgebra n (hyperDualRecords a.now) stride base i (hyperDualRecords x.now) lo hi v }
+    ensures { result ≡ less_row hyper_dual_algebra n (hyper_dual_records a.now) stride base i (hyper_dual_records x.now) lo hi v }
 {
     let row = i * n;
     let mut r = v;
@@ -48,7 +48,7 @@ fn forward_row(n: usize, a: &[f64], x: &mut [f64], stride: usize, base: usize, i
     requires row_place { RowPlace 4 n i a.now }
     requires strided { Strided 4 n stride base x.old }
     requires base_in_bounds { (i * stride + base) * 4 + 4 ≤ length x.old }
-    ensures { hyperDualRecords x.new ≡ forwardRowFrom hyperDualAlgebra n (hyperDualRecords a.now) stride base i (hyperDualRecords x.old) }
+    ensures { hyper_dual_records x.new ≡ forward_row_from hyper_dual_algebra n (hyper_dual_records a.now) stride base i (hyper_dual_records x.old) }
 {
     let at = i * stride + base;
     let v = hyperdual::read(x, at);
@@ -60,7 +60,7 @@ fn forward_row(n: usize, a: &[f64], x: &mut [f64], stride: usize, base: usize, i
 fn run_forward(n: usize, a: &[f64], x: &mut [f64], stride: usize, base: usize)
     requires square { Square 4 n a.now }
     requires strided { Strided 4 n stride base x.old }
-    ensures { hyperDualRecords x.new ≡ forwardFrom hyperDualAlgebra n (hyperDualRecords a.now) stride base (hyperDualRecords x.old) }
+    ensures { hyper_dual_records x.new ≡ forward_from hyper_dual_algebra n (hyper_dual_records a.now) stride base (hyper_dual_records x.old) }
 {
     for i in 0..n {
         forward_row(n, a, x, stride, base, i);
@@ -72,7 +72,7 @@ fn back_row(n: usize, a: &[f64], x: &mut [f64], stride: usize, base: usize, i: u
     requires row_place { RowPlace 4 n i a.now }
     requires strided { Strided 4 n stride base x.old }
     requires base_in_bounds { (i * stride + base) * 4 + 4 ≤ length x.old }
-    ensures { hyperDualRecords x.new ≡ backRow hyperDualAlgebra n (hyperDualRecords a.now) stride base i (hyperDualRecords x.old) }
+    ensures { hyper_dual_records x.new ≡ back_row hyper_dual_algebra n (hyper_dual_records a.now) stride base i (hyper_dual_records x.old) }
 {
     let at = i * stride + base;
     let r = less_row(n, a, x, stride, base, i, i + 1, n, hyperdual::read(x, at));
@@ -83,7 +83,7 @@ fn back_row(n: usize, a: &[f64], x: &mut [f64], stride: usize, base: usize, i: u
 fn run_back(n: usize, a: &[f64], x: &mut [f64], stride: usize, base: usize)
     requires square { Square 4 n a.now }
     requires strided { Strided 4 n stride base x.old }
-    ensures { hyperDualRecords x.new ≡ back hyperDualAlgebra n (hyperDualRecords a.now) stride base (hyperDualRecords x.old) }
+    ensures { hyper_dual_records x.new ≡ back hyper_dual_algebra n (hyper_dual_records a.now) stride base (hyper_dual_records x.old) }
 {
     for t in 0..n {
         back_row(n, a, x, stride, base, n - 1 - t);
@@ -94,7 +94,7 @@ fn run_back(n: usize, a: &[f64], x: &mut [f64], stride: usize, base: usize)
 fn substitute(n: usize, a: &[f64], x: &mut [f64], stride: usize, base: usize)
     requires square { Square 4 n a.now }
     requires strided { Strided 4 n stride base x.old }
-    ensures { hyperDualRecords x.new ≡ substituteFrom hyperDualAlgebra n (hyperDualRecords a.now) stride base (hyperDualRecords x.old) }
+    ensures { hyper_dual_records x.new ≡ substitute_from hyper_dual_algebra n (hyper_dual_records a.now) stride base (hyper_dual_records x.old) }
 {
     run_forward(n, a, x, stride, base);
     run_back(n, a, x, stride, base);
@@ -105,7 +105,7 @@ fn solve_starts(n: usize, order: &[usize], b: &[f64], x: &mut [f64])
     requires order { Order n order.now }
     requires b_len { length b.now ≡ n * 4 }
     requires x_len { length x.old ≡ n * 4 }
-    ensures { hyperDualRecords x.new ≡ solveStarts hyperDualAlgebra n order.now (hyperDualRecords b.now) }
+    ensures { hyper_dual_records x.new ≡ solve_starts hyper_dual_algebra n order.now (hyper_dual_records b.now) }
 {
     for k in 0..n {
         let p = order[k];
@@ -119,7 +119,7 @@ pub fn solve_run(n: usize, a: &[f64], order: &[usize], b: &[f64], x: &mut [f64])
     requires order { Order n order.now }
     requires b_len { length b.now ≡ n * 4 }
     requires x_len { length x.old ≡ n * 4 }
-    ensures { hyperDualRecords x.new ≡ solveOf hyperDualAlgebra n (hyperDualRecords a.now) order.now (hyperDualRecords b.now) }
+    ensures { hyper_dual_records x.new ≡ solve_of hyper_dual_algebra n (hyper_dual_records a.now) order.now (hyper_dual_records b.now) }
 {
     solve_starts(n, order, b, x);
     substitute(n, a, x, 1, 0);
@@ -129,7 +129,7 @@ pub fn solve_run(n: usize, a: &[f64], order: &[usize], b: &[f64], x: &mut [f64])
 fn inverse_starts(n: usize, order: &[usize], x: &mut [f64])
     requires order { Order n order.now }
     requires square { Square 4 n x.old }
-    ensures { hyperDualRecords x.new ≡ units hyperDualAlgebra n order.now }
+    ensures { hyper_dual_records x.new ≡ units hyper_dual_algebra n order.now }
 {
     floats::clear(x);
     for i in 0..n {
@@ -143,7 +143,7 @@ pub fn inverse_run(n: usize, a: &[f64], order: &[usize], x: &mut [f64])
     requires square { Square 4 n a.now }
     requires order { Order n order.now }
     requires square_2 { Square 4 n x.old }
-    ensures { hyperDualRecords x.new ≡ inverseOf hyperDualAlgebra n (hyperDualRecords a.now) order.now }
+    ensures { hyper_dual_records x.new ≡ inverse_of hyper_dual_algebra n (hyper_dual_records a.now) order.now }
 {
     inverse_starts(n, order, x);
     for j in 0..n {

@@ -6,36 +6,36 @@ use Rattle.real.specs.Operations.{◌⊕◌, ◌⊖◌, ◌⊗◌, ◌⊘◌, ze
 use Rattle.algebra.specs.Algebra.{Algebra}
 use Rattle.algebra.specs.Flat.{Layout, decode}
 use Rattle.algebra.specs.Outcome.{Outcome, value, refused}
-use Rattle.derivatives.specs.Series.{recipSeries}
+use Rattle.derivatives.specs.Series.{recip_series}
 use Rattle.hyperhyperdual.specs.declared.HyperHyperDual.{HyperHyperDual}
 use Rattle.hyperhyperdual.specs.declared.HyperHyperDualSinCos.{HyperHyperDualSinCos}
 use Rattle.hyperhyperdual.specs.declared.HyperHyperDualAnswer.{HyperHyperDualAnswer}
 use Rattle.hyperhyperdual.specs.declared.HyperHyperDualAnswer.TheVariants.{Value, Refused}
 
 -- a record by its parts
-abbrev pub hyperHyperDual : Float → Float → Float → Float → Float → Float → Float → Float → HyperHyperDual
-hyperHyperDual re eps1 eps2 eps3 eps1eps2 eps1eps3 eps2eps3 eps1eps2eps3 = record { re = re; eps1 = eps1; eps2 = eps2; eps3 = eps3; eps1eps2 = eps1eps2; eps1eps3 = eps1eps3; eps2eps3 = eps2eps3; eps1eps2eps3 = eps1eps2eps3 }
+abbrev pub hyper_hyper_dual : Float → Float → Float → Float → Float → Float → Float → Float → HyperHyperDual
+hyper_hyper_dual re eps1 eps2 eps3 eps1eps2 eps1eps3 eps2eps3 eps1eps2eps3 = record { re = re; eps1 = eps1; eps2 = eps2; eps3 = eps3; eps1eps2 = eps1eps2; eps1eps3 = eps1eps3; eps2eps3 = eps2eps3; eps1eps2eps3 = eps1eps2eps3 }
 
 -- the partial derivative part w.r.t. the 1st variable set to 1
-abbrev pub hyperHyperDualDerivative1 : HyperHyperDual → HyperHyperDual
-hyperHyperDualDerivative1 self = hyperHyperDual self.re one self.eps2 self.eps3 self.eps1eps2 self.eps1eps3 self.eps2eps3 self.eps1eps2eps3
+abbrev pub hyper_hyper_dual_derivative1 : HyperHyperDual → HyperHyperDual
+hyper_hyper_dual_derivative1 self = hyper_hyper_dual self.re one self.eps2 self.eps3 self.eps1eps2 self.eps1eps3 self.eps2eps3 self.eps1eps2eps3
 
 -- the partial derivative part w.r.t. the 2nd variable set to 1
-abbrev pub hyperHyperDualDerivative2 : HyperHyperDual → HyperHyperDual
-hyperHyperDualDerivative2 self = hyperHyperDual self.re self.eps1 one self.eps3 self.eps1eps2 self.eps1eps3 self.eps2eps3 self.eps1eps2eps3
+abbrev pub hyper_hyper_dual_derivative2 : HyperHyperDual → HyperHyperDual
+hyper_hyper_dual_derivative2 self = hyper_hyper_dual self.re self.eps1 one self.eps3 self.eps1eps2 self.eps1eps3 self.eps2eps3 self.eps1eps2eps3
 
 -- the partial derivative part w.r.t. the 3rd variable set to 1
-abbrev pub hyperHyperDualDerivative3 : HyperHyperDual → HyperHyperDual
-hyperHyperDualDerivative3 self = hyperHyperDual self.re self.eps1 self.eps2 one self.eps1eps2 self.eps1eps3 self.eps2eps3 self.eps1eps2eps3
+abbrev pub hyper_hyper_dual_derivative3 : HyperHyperDual → HyperHyperDual
+hyper_hyper_dual_derivative3 self = hyper_hyper_dual self.re self.eps1 self.eps2 one self.eps1eps2 self.eps1eps3 self.eps2eps3 self.eps1eps2eps3
 
 -- a real part alone
-abbrev pub hyperHyperDualFromRe : Float → HyperHyperDual
-hyperHyperDualFromRe re = hyperHyperDual re zero zero zero zero zero zero zero
+abbrev pub hyper_hyper_dual_from_re : Float → HyperHyperDual
+hyper_hyper_dual_from_re re = hyper_hyper_dual re zero zero zero zero zero zero zero
 
 -- chain rule
-unfoldable pub hyperHyperDualChain : HyperHyperDual → Float → Float → Float → Float → HyperHyperDual
-hyperHyperDualChain self f0 f1 f2 f3 =
-    hyperHyperDual
+unfoldable pub hyper_hyper_dual_chain : HyperHyperDual → Float → Float → Float → Float → HyperHyperDual
+hyper_hyper_dual_chain self f0 f1 f2 f3 =
+    hyper_hyper_dual
     f0
     (f1 ⊗ self.eps1)
     (f1 ⊗ self.eps2)
@@ -46,9 +46,9 @@ hyperHyperDualChain self f0 f1 f2 f3 =
     (f1 ⊗ self.eps1eps2eps3 ⊕ f2 ⊗ (self.eps1 ⊗ self.eps2eps3 ⊕ self.eps2 ⊗ self.eps1eps3 ⊕ self.eps3 ⊗ self.eps1eps2) ⊕ f3 ⊗ self.eps1 ⊗ self.eps2 ⊗ self.eps3)
 
 -- product rule
-unfoldable pub hyperHyperDualMul : HyperHyperDual → HyperHyperDual → HyperHyperDual
-hyperHyperDualMul self rhs =
-    hyperHyperDual
+unfoldable pub hyper_hyper_dual_mul : HyperHyperDual → HyperHyperDual → HyperHyperDual
+hyper_hyper_dual_mul self rhs =
+    hyper_hyper_dual
     (self.re ⊗ rhs.re)
     (self.eps1 ⊗ rhs.re ⊕ self.re ⊗ rhs.eps1)
     (self.eps2 ⊗ rhs.re ⊕ self.re ⊗ rhs.eps2)
@@ -59,15 +59,15 @@ hyperHyperDualMul self rhs =
     (self.eps1eps2eps3 ⊗ rhs.re ⊕ self.eps1 ⊗ rhs.eps2eps3 ⊕ self.eps2 ⊗ rhs.eps1eps3 ⊕ self.eps3 ⊗ rhs.eps1eps2 ⊕ self.eps2eps3 ⊗ rhs.eps1 ⊕ self.eps1eps3 ⊗ rhs.eps2 ⊕ self.eps1eps2 ⊗ rhs.eps3 ⊕ self.re ⊗ rhs.eps1eps2eps3)
 
 -- the product with the chain rule of the reciprocal
-unfoldable pub hyperHyperDualDiv : HyperHyperDual → HyperHyperDual → HyperHyperDual
-hyperHyperDualDiv self rhs =
-    let rec = recipSeries rhs.re in
-    hyperHyperDualMul self (hyperHyperDualChain rhs rec.f0 rec.f1 rec.f2 rec.f3)
+unfoldable pub hyper_hyper_dual_div : HyperHyperDual → HyperHyperDual → HyperHyperDual
+hyper_hyper_dual_div self rhs =
+    let rec = recip_series rhs.re in
+    hyper_hyper_dual_mul self (hyper_hyper_dual_chain rhs rec.f0 rec.f1 rec.f2 rec.f3)
 
 -- part by part
-unfoldable pub hyperHyperDualAdd : HyperHyperDual → HyperHyperDual → HyperHyperDual
-hyperHyperDualAdd self other =
-    hyperHyperDual
+unfoldable pub hyper_hyper_dual_add : HyperHyperDual → HyperHyperDual → HyperHyperDual
+hyper_hyper_dual_add self other =
+    hyper_hyper_dual
     (self.re ⊕ other.re)
     (self.eps1 ⊕ other.eps1)
     (self.eps2 ⊕ other.eps2)
@@ -77,9 +77,9 @@ hyperHyperDualAdd self other =
     (self.eps2eps3 ⊕ other.eps2eps3)
     (self.eps1eps2eps3 ⊕ other.eps1eps2eps3)
 
-unfoldable pub hyperHyperDualSub : HyperHyperDual → HyperHyperDual → HyperHyperDual
-hyperHyperDualSub self other =
-    hyperHyperDual
+unfoldable pub hyper_hyper_dual_sub : HyperHyperDual → HyperHyperDual → HyperHyperDual
+hyper_hyper_dual_sub self other =
+    hyper_hyper_dual
     (self.re ⊖ other.re)
     (self.eps1 ⊖ other.eps1)
     (self.eps2 ⊖ other.eps2)
@@ -89,9 +89,9 @@ hyperHyperDualSub self other =
     (self.eps2eps3 ⊖ other.eps2eps3)
     (self.eps1eps2eps3 ⊖ other.eps1eps2eps3)
 
-unfoldable pub hyperHyperDualNeg : HyperHyperDual → HyperHyperDual
-hyperHyperDualNeg self =
-    hyperHyperDual
+unfoldable pub hyper_hyper_dual_neg : HyperHyperDual → HyperHyperDual
+hyper_hyper_dual_neg self =
+    hyper_hyper_dual
     (neg self.re)
     (neg self.eps1)
     (neg self.eps2)
@@ -102,9 +102,9 @@ hyperHyperDualNeg self =
     (neg self.eps1eps2eps3)
 
 -- a plain float multiplies or divides each part
-unfoldable pub hyperHyperDualMulFloat : HyperHyperDual → Float → HyperHyperDual
-hyperHyperDualMulFloat self other =
-    hyperHyperDual
+unfoldable pub hyper_hyper_dual_mul_float : HyperHyperDual → Float → HyperHyperDual
+hyper_hyper_dual_mul_float self other =
+    hyper_hyper_dual
     (self.re ⊗ other)
     (self.eps1 ⊗ other)
     (self.eps2 ⊗ other)
@@ -114,9 +114,9 @@ hyperHyperDualMulFloat self other =
     (self.eps2eps3 ⊗ other)
     (self.eps1eps2eps3 ⊗ other)
 
-unfoldable pub hyperHyperDualDivFloat : HyperHyperDual → Float → HyperHyperDual
-hyperHyperDualDivFloat self other =
-    hyperHyperDual
+unfoldable pub hyper_hyper_dual_div_float : HyperHyperDual → Float → HyperHyperDual
+hyper_hyper_dual_div_float self other =
+    hyper_hyper_dual
     (self.re ⊘ other)
     (self.eps1 ⊘ other)
     (self.eps2 ⊘ other)
@@ -127,40 +127,40 @@ hyperHyperDualDivFloat self other =
     (self.eps1eps2eps3 ⊘ other)
 
 -- the highest order of a derivative that the record carries: NDERIV
-abbrev pub hyperHyperDualNderiv : ℕ
-hyperHyperDualNderiv = 3
+abbrev pub hyper_hyper_dual_nderiv : ℕ
+hyper_hyper_dual_nderiv = 3
 
 -- `HyperHyperDual` by its operations
-abbrev pub hyperHyperDualAlgebra : Algebra HyperHyperDual
-hyperHyperDualAlgebra = record {
+abbrev pub hyper_hyper_dual_algebra : Algebra HyperHyperDual
+hyper_hyper_dual_algebra = record {
   re = λ x. x.re;
-  fromRe = hyperHyperDualFromRe;
-  withRe = λ x re. hyperHyperDual re x.eps1 x.eps2 x.eps3 x.eps1eps2 x.eps1eps3 x.eps2eps3 x.eps1eps2eps3;
-  add = hyperHyperDualAdd;
-  sub = hyperHyperDualSub;
-  mul = hyperHyperDualMul;
-  div = hyperHyperDualDiv;
-  neg = hyperHyperDualNeg;
-  mulFloat = hyperHyperDualMulFloat;
-  divFloat = hyperHyperDualDivFloat;
-  chain = hyperHyperDualChain;
+  from_re = hyper_hyper_dual_from_re;
+  with_re = λ x re. hyper_hyper_dual re x.eps1 x.eps2 x.eps3 x.eps1eps2 x.eps1eps3 x.eps2eps3 x.eps1eps2eps3;
+  add = hyper_hyper_dual_add;
+  sub = hyper_hyper_dual_sub;
+  mul = hyper_hyper_dual_mul;
+  div = hyper_hyper_dual_div;
+  neg = hyper_hyper_dual_neg;
+  mul_float = hyper_hyper_dual_mul_float;
+  div_float = hyper_hyper_dual_div_float;
+  chain = hyper_hyper_dual_chain;
 }
 
 -- eight floats a record: re, eps1, eps2, eps3, eps1eps2, eps1eps3, eps2eps3, eps1eps2eps3
-abbrev pub hyperHyperDualLayout : Layout HyperHyperDual
-hyperHyperDualLayout = record {
+abbrev pub hyper_hyper_dual_layout : Layout HyperHyperDual
+hyper_hyper_dual_layout = record {
   width = 8;
   parts = λ x. x.re ∷ x.eps1 ∷ x.eps2 ∷ x.eps3 ∷ x.eps1eps2 ∷ x.eps1eps3 ∷ x.eps2eps3 ∷ x.eps1eps2eps3 ∷ [];
-  make = λ part. hyperHyperDual (part 0) (part 1) (part 2) (part 3) (part 4) (part 5) (part 6) (part 7);
+  make = λ part. hyper_hyper_dual (part 0) (part 1) (part 2) (part 3) (part 4) (part 5) (part 6) (part 7);
 }
 
 -- the records that flat floats hold
-abbrev pub hyperHyperDualRecords : List Float → List HyperHyperDual
-hyperHyperDualRecords l = decode hyperHyperDualLayout l
+abbrev pub hyper_hyper_dual_records : List Float → List HyperHyperDual
+hyper_hyper_dual_records l = decode hyper_hyper_dual_layout l
 
 -- a sine and a cosine
-abbrev pub hyperHyperDualSinCos : HyperHyperDual → HyperHyperDual → HyperHyperDualSinCos
-hyperHyperDualSinCos sin cos = record { sin = sin; cos = cos }
+abbrev pub hyper_hyper_dual_sin_cos : HyperHyperDual → HyperHyperDual → HyperHyperDualSinCos
+hyper_hyper_dual_sin_cos sin cos = record { sin = sin; cos = cos }
 
 -- document 01's reading of an answer: the record, or the number that it is refused by
 abbrev pub outcome : HyperHyperDualAnswer → Outcome HyperHyperDual

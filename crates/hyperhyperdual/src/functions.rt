@@ -1,7 +1,7 @@
 // The functions of impl_derivatives.rs, each by its series or its plan; `mul_add` and `powd` are lib.rs's, `sph_j1_series` is document 02's.
 ghost use Rattle.std.specs.Prelude.{◌≡◌};
-ghost use Rattle.derivatives.specs.Apply.{chainBy, smallJ0, smallJ2, besselJ1, besselJ2, cubicJ1, sphJ1SeriesOf, runPlan, applyOf, recipOf, sqrtOf, sinOf, cosOf, atan2Of, mulAddOf, powdOf};
-ghost use Rattle.hyperhyperdual.specs.Rules.{hyperHyperDualMulFloat, hyperHyperDualNderiv, hyperHyperDualAlgebra, hyperHyperDualSinCos, outcome};
+ghost use Rattle.derivatives.specs.Apply.{chain_by, small_j0, small_j2, bessel_j1, bessel_j2, cubic_j1, sph_j1_series_of, run_plan, apply_of, recip_of, sqrt_of, sin_of, cos_of, atan2_of, mul_add_of, powd_of};
+ghost use Rattle.hyperhyperdual.specs.Rules.{hyper_hyper_dual_mul_float, hyper_hyper_dual_nderiv, hyper_hyper_dual_algebra, hyper_hyper_dual_sin_cos, outcome};
 
 use crate::{HyperHyperDual, HyperHyperDualAnswer, HyperHyperDualSinCos};
 use derivatives::{Function, Plan, Series};
@@ -9,38 +9,38 @@ use derivatives::{Function, Plan, Series};
 impl HyperHyperDual {
     // The chain rule with as many derivatives of a series as the record carries.
     fn chain(self, s: Series) -> Self
-        ensures { result ≡ chainBy hyperHyperDualAlgebra self s }
+        ensures { result ≡ chain_by hyper_hyper_dual_algebra self s }
     {
         self.chain_rule(s.f0, s.f1, s.f2, s.f3)
     }
 
     pub fn scale(self, factor: f64) -> Self
-        ensures { result ≡ hyperHyperDualMulFloat self factor }
+        ensures { result ≡ hyper_hyper_dual_mul_float self factor }
     {
         self.mul_float(factor)
     }
 
     pub fn recip(self) -> Self
-        ensures { result ≡ recipOf hyperHyperDualAlgebra self }
+        ensures { result ≡ recip_of hyper_hyper_dual_algebra self }
     {
         self.chain(Series::recip(self.re))
     }
 
     pub fn inv(self) -> Self
-        ensures { result ≡ recipOf hyperHyperDualAlgebra self }
+        ensures { result ≡ recip_of hyper_hyper_dual_algebra self }
     {
         self.recip()
     }
 
     pub fn sqrt(self) -> Self
-        ensures { result ≡ sqrtOf hyperHyperDualAlgebra self }
+        ensures { result ≡ sqrt_of hyper_hyper_dual_algebra self }
     {
         self.chain(Series::sqrt(self.re))
     }
 
     // `sin` and `cos` are the sine and the cosine of re.
     pub fn sin_cos(self, sin: f64, cos: f64) -> HyperHyperDualSinCos
-        ensures { result ≡ hyperHyperDualSinCos (sinOf hyperHyperDualAlgebra self sin cos) (cosOf hyperHyperDualAlgebra self sin cos) }
+        ensures { result ≡ hyper_hyper_dual_sin_cos (sin_of hyper_hyper_dual_algebra self sin cos) (cos_of hyper_hyper_dual_algebra self sin cos) }
     {
         let s = self.chain(Series::sin(sin, cos));
         let c = self.chain(Series::cos(sin, cos));
@@ -49,7 +49,7 @@ impl HyperHyperDual {
 
     // `atan` is the arctangent of the quotient's real part, `quadrant` the four-quadrant value.
     pub fn atan2(self, other: HyperHyperDual, atan: f64, quadrant: f64) -> Self
-        ensures { result ≡ atan2Of hyperHyperDualAlgebra self other atan quadrant }
+        ensures { result ≡ atan2_of hyper_hyper_dual_algebra self other atan quadrant }
     {
         let q = self.div(other);
         let mut res = q.chain(Series::atan(q.re, atan));
@@ -58,14 +58,14 @@ impl HyperHyperDual {
     }
 
     pub fn mul_add(self, a: HyperHyperDual, b: HyperHyperDual) -> Self
-        ensures { result ≡ mulAddOf hyperHyperDualAlgebra self a b }
+        ensures { result ≡ mul_add_of hyper_hyper_dual_algebra self a b }
     {
         self.mul(a).add(b)
     }
 
     // Power with hyper-hyper-dual exponent: `ln` is the logarithm of re, `exp` the exponential of the product's real part.
     pub fn powd(self, exponent: HyperHyperDual, ln: f64, exp: f64) -> Self
-        ensures { result ≡ powdOf hyperHyperDualAlgebra self exponent ln exp }
+        ensures { result ≡ powd_of hyper_hyper_dual_algebra self exponent ln exp }
     {
         self.chain(Series::ln(self.re, ln))
             .mul(exponent)
@@ -74,7 +74,7 @@ impl HyperHyperDual {
 
     // sph_j1 with the cubic of its series for small re, which the source leaves out; `sin` and `cos` are the sine and the cosine of re.
     pub fn sph_j1_series(self, sin: f64, cos: f64) -> Self
-        ensures { result ≡ sphJ1SeriesOf hyperHyperDualAlgebra self sin cos }
+        ensures { result ≡ sph_j1_series_of hyper_hyper_dual_algebra self sin cos }
     {
         if derivatives::is_small(self.re) {
             return self.cubic_j1();
@@ -86,13 +86,13 @@ impl HyperHyperDual {
 
     // Any function of impl_derivatives.rs, or sph_j1_series, with the outside floats that it needs.
     pub fn apply(self, f: Function) -> HyperHyperDualAnswer
-        ensures { outcome result ≡ applyOf hyperHyperDualAlgebra hyperHyperDualNderiv self f }
+        ensures { outcome result ≡ apply_of hyper_hyper_dual_algebra hyper_hyper_dual_nderiv self f }
     {
         self.run(derivatives::choose(self.re, f))
     }
 
     fn run(self, p: Plan) -> HyperHyperDualAnswer
-        ensures { outcome result ≡ runPlan hyperHyperDualAlgebra hyperHyperDualNderiv self p }
+        ensures { outcome result ≡ run_plan hyper_hyper_dual_algebra hyper_hyper_dual_nderiv self p }
     {
         match p {
             Plan::Refused(n) => HyperHyperDualAnswer::Refused(n),
@@ -118,32 +118,32 @@ impl HyperHyperDual {
     }
 
     fn small_j0(self) -> Self
-        ensures { result ≡ smallJ0 hyperHyperDualAlgebra self }
+        ensures { result ≡ small_j0 hyper_hyper_dual_algebra self }
     {
         Self::ONE.sub(self.mul(self).div_float(6.0))
     }
 
     fn small_j2(self) -> Self
-        ensures { result ≡ smallJ2 hyperHyperDualAlgebra self }
+        ensures { result ≡ small_j2 hyper_hyper_dual_algebra self }
     {
         self.mul(self).div_float(15.0)
     }
 
     fn cubic_j1(self) -> Self
-        ensures { result ≡ cubicJ1 hyperHyperDualAlgebra self }
+        ensures { result ≡ cubic_j1 hyper_hyper_dual_algebra self }
     {
         let cube = self.mul(self).mul(self);
         self.div_float(3.0).sub(cube.div_float(30.0))
     }
 
     fn bessel_j1(self, s: HyperHyperDual, c: HyperHyperDual) -> Self
-        ensures { result ≡ besselJ1 hyperHyperDualAlgebra self s c }
+        ensures { result ≡ bessel_j1 hyper_hyper_dual_algebra self s c }
     {
         s.sub(self.mul(c)).div(self.mul(self))
     }
 
     fn bessel_j2(self, s: HyperHyperDual, c: HyperHyperDual) -> Self
-        ensures { result ≡ besselJ2 hyperHyperDualAlgebra self s c }
+        ensures { result ≡ bessel_j2 hyper_hyper_dual_algebra self s c }
     {
         let s2 = self.mul(self);
         s.sub(self.mul(c))

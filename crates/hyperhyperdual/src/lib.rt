@@ -5,7 +5,7 @@ mod operations;
 mod records;
 
 ghost use Rattle.std.specs.Prelude.{◌≡◌};
-ghost use Rattle.hyperhyperdual.specs.Rules.{hyperHyperDual, hyperHyperDualDerivative1, hyperHyperDualDerivative2, hyperHyperDualDerivative3, hyperHyperDualFromRe, hyperHyperDualChain, hyperHyperDualMul, hyperHyperDualDiv};
+ghost use Rattle.hyperhyperdual.specs.Rules.{hyper_hyper_dual, hyper_hyper_dual_derivative1, hyper_hyper_dual_derivative2, hyper_hyper_dual_derivative3, hyper_hyper_dual_from_re, hyper_hyper_dual_chain, hyper_hyper_dual_mul, hyper_hyper_dual_div};
 
 use derivatives::Series;
 pub use records::{product, read, sum, write};
@@ -81,7 +81,7 @@ impl HyperHyperDual {
         eps2eps3: f64,
         eps1eps2eps3: f64,
     ) -> Self
-        ensures { result ≡ hyperHyperDual re eps1 eps2 eps3 eps1eps2 eps1eps3 eps2eps3 eps1eps2eps3 }
+        ensures { result ≡ hyper_hyper_dual re eps1 eps2 eps3 eps1eps2 eps1eps3 eps2eps3 eps1eps2eps3 }
     {
         Self {
             re,
@@ -97,7 +97,7 @@ impl HyperHyperDual {
 
     // Set the partial derivative part w.r.t. the 1st variable to 1.
     pub fn derivative1(mut self) -> Self
-        ensures { result ≡ hyperHyperDualDerivative1 self }
+        ensures { result ≡ hyper_hyper_dual_derivative1 self }
     {
         self.eps1 = 1.0;
         self
@@ -105,7 +105,7 @@ impl HyperHyperDual {
 
     // Set the partial derivative part w.r.t. the 2nd variable to 1.
     pub fn derivative2(mut self) -> Self
-        ensures { result ≡ hyperHyperDualDerivative2 self }
+        ensures { result ≡ hyper_hyper_dual_derivative2 self }
     {
         self.eps2 = 1.0;
         self
@@ -113,7 +113,7 @@ impl HyperHyperDual {
 
     // Set the partial derivative part w.r.t. the 3rd variable to 1.
     pub fn derivative3(mut self) -> Self
-        ensures { result ≡ hyperHyperDualDerivative3 self }
+        ensures { result ≡ hyper_hyper_dual_derivative3 self }
     {
         self.eps3 = 1.0;
         self
@@ -121,7 +121,7 @@ impl HyperHyperDual {
 
     // Create a new hyper-hyper-dual number from the real part.
     pub fn from_re(re: f64) -> Self
-        ensures { result ≡ hyperHyperDualFromRe re }
+        ensures { result ≡ hyper_hyper_dual_from_re re }
     {
         Self {
             re,
@@ -137,7 +137,7 @@ impl HyperHyperDual {
 
     /* chain rule */
     fn chain_rule(self, f0: f64, f1: f64, f2: f64, f3: f64) -> Self
-        ensures { result ≡ hyperHyperDualChain self f0 f1 f2 f3 }
+        ensures { result ≡ hyper_hyper_dual_chain self f0 f1 f2 f3 }
     {
         Self {
             re: f0,
@@ -157,7 +157,7 @@ impl HyperHyperDual {
 
     /* product rule */
     pub fn mul(self, rhs: HyperHyperDual) -> Self
-        ensures { result ≡ hyperHyperDualMul self rhs }
+        ensures { result ≡ hyper_hyper_dual_mul self rhs }
     {
         Self {
             re: self.re * rhs.re,
@@ -189,7 +189,7 @@ impl HyperHyperDual {
 
     // The product with the chain rule of the reciprocal. The source writes the derivatives of `recip` out here once more.
     pub fn div(self, rhs: HyperHyperDual) -> Self
-        ensures { result ≡ hyperHyperDualDiv self rhs }
+        ensures { result ≡ hyper_hyper_dual_div self rhs }
     {
         let rec = Series::recip(rhs.re);
         self.mul(rhs.chain_rule(rec.f0, rec.f1, rec.f2, rec.f3))

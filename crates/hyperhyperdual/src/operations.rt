@@ -3,15 +3,15 @@ ghost use Rattle.std.specs.Prelude.{◌≡◌, not};
 ghost use Rattle.std.specs.Float.Ieee.{lt, le, eq};
 ghost use Rattle.real.specs.Operations.{zero, one};
 ghost use Rattle.real.specs.Sign.{sign_of};
-ghost use Rattle.algebra.specs.Algebra.{zero_of, one_of, addFloat, subFloat, magnitude};
-ghost use Rattle.derivatives.specs.Apply.{absSubOf, signumOf};
-ghost use Rattle.hyperhyperdual.specs.Rules.{hyperHyperDualAdd, hyperHyperDualSub, hyperHyperDualNeg, hyperHyperDualMulFloat, hyperHyperDualDivFloat, hyperHyperDualNderiv, hyperHyperDualAlgebra};
+ghost use Rattle.algebra.specs.Algebra.{zero_of, one_of, add_float, sub_float, magnitude};
+ghost use Rattle.derivatives.specs.Apply.{abs_sub_of, signum_of};
+ghost use Rattle.hyperhyperdual.specs.Rules.{hyper_hyper_dual_add, hyper_hyper_dual_sub, hyper_hyper_dual_neg, hyper_hyper_dual_mul_float, hyper_hyper_dual_div_float, hyper_hyper_dual_nderiv, hyper_hyper_dual_algebra};
 
 use crate::HyperHyperDual;
 
 impl HyperHyperDual {
     pub fn zero() -> Self
-        ensures { result ≡ zero_of hyperHyperDualAlgebra }
+        ensures { result ≡ zero_of hyper_hyper_dual_algebra }
     {
         Self::ZERO
     }
@@ -23,7 +23,7 @@ impl HyperHyperDual {
     }
 
     pub fn one() -> Self
-        ensures { result ≡ one_of hyperHyperDualAlgebra }
+        ensures { result ≡ one_of hyper_hyper_dual_algebra }
     {
         Self::ONE
     }
@@ -35,13 +35,13 @@ impl HyperHyperDual {
     }
 
     pub fn nderiv() -> usize
-        ensures { result ≡ hyperHyperDualNderiv }
+        ensures { result ≡ hyper_hyper_dual_nderiv }
     {
         Self::NDERIV
     }
 
     pub fn add(self, other: HyperHyperDual) -> Self
-        ensures { result ≡ hyperHyperDualAdd self other }
+        ensures { result ≡ hyper_hyper_dual_add self other }
     {
         Self {
             re: self.re + other.re,
@@ -56,7 +56,7 @@ impl HyperHyperDual {
     }
 
     pub fn sub(self, other: HyperHyperDual) -> Self
-        ensures { result ≡ hyperHyperDualSub self other }
+        ensures { result ≡ hyper_hyper_dual_sub self other }
     {
         Self {
             re: self.re - other.re,
@@ -71,7 +71,7 @@ impl HyperHyperDual {
     }
 
     pub fn neg(self) -> Self
-        ensures { result ≡ hyperHyperDualNeg self }
+        ensures { result ≡ hyper_hyper_dual_neg self }
     {
         Self {
             re: -self.re,
@@ -86,7 +86,7 @@ impl HyperHyperDual {
     }
 
     pub fn mul_float(self, other: f64) -> Self
-        ensures { result ≡ hyperHyperDualMulFloat self other }
+        ensures { result ≡ hyper_hyper_dual_mul_float self other }
     {
         Self {
             re: self.re * other,
@@ -101,7 +101,7 @@ impl HyperHyperDual {
     }
 
     pub fn div_float(self, other: f64) -> Self
-        ensures { result ≡ hyperHyperDualDivFloat self other }
+        ensures { result ≡ hyper_hyper_dual_div_float self other }
     {
         Self {
             re: self.re / other,
@@ -116,14 +116,14 @@ impl HyperHyperDual {
     }
 
     pub fn add_float(mut self, other: f64) -> Self
-        ensures { result ≡ addFloat hyperHyperDualAlgebra self other }
+        ensures { result ≡ add_float hyper_hyper_dual_algebra self other }
     {
         self.re = self.re + other;
         self
     }
 
     pub fn sub_float(mut self, other: f64) -> Self
-        ensures { result ≡ subFloat hyperHyperDualAlgebra self other }
+        ensures { result ≡ sub_float hyper_hyper_dual_algebra self other }
     {
         self.re = self.re - other;
         self
@@ -131,7 +131,7 @@ impl HyperHyperDual {
 
     // x where the sign bit of re is clear, else -x.
     pub fn abs(self) -> Self
-        ensures { result ≡ magnitude hyperHyperDualAlgebra self }
+        ensures { result ≡ magnitude hyper_hyper_dual_algebra self }
     {
         if real::is_negative(self.re) {
             self.neg()
@@ -141,7 +141,7 @@ impl HyperHyperDual {
     }
 
     pub fn abs_sub(self, other: HyperHyperDual) -> Self
-        ensures { result ≡ absSubOf hyperHyperDualAlgebra self other }
+        ensures { result ≡ abs_sub_of hyper_hyper_dual_algebra self other }
     {
         if self.re > other.re {
             self.sub(other)
@@ -151,7 +151,7 @@ impl HyperHyperDual {
     }
 
     pub fn signum(self) -> Self
-        ensures { result ≡ signumOf hyperHyperDualAlgebra self }
+        ensures { result ≡ signum_of hyper_hyper_dual_algebra self }
     {
         if real::is_negative(self.re) {
             if self.re == 0.0 {

@@ -1,15 +1,15 @@
 // `HyperHyperDual` records in flat floats, eight floats a record, the real part first: one reader and one writer, and the sum and the product of a run.
 ghost use Rattle.std.specs.Prelude.{◌≡◌, ◌+◌, ◌*◌, ◌<◌, length, get_or, set};
 ghost use Rattle.algebra.specs.Algebra.{zero_of};
-ghost use Rattle.algebra.specs.Flat.{sum_of, productOf};
-ghost use Rattle.hyperhyperdual.specs.Rules.{hyperHyperDualAlgebra, hyperHyperDualLayout, hyperHyperDualRecords, outcome};
+ghost use Rattle.algebra.specs.Flat.{sum_of, product_of};
+ghost use Rattle.hyperhyperdual.specs.Rules.{hyper_hyper_dual_algebra, hyper_hyper_dual_layout, hyper_hyper_dual_records, outcome};
 
 use crate::{HyperHyperDual, HyperHyperDualAnswer};
 
 // Record number `at`. Inner: for the crates above, which show its `requires`.
 pub fn read(floats: &[f64], at: usize) -> HyperHyperDual
     requires { at * 8 + 7 < length floats.now }
-    ensures { result ≡ get_or (hyperHyperDualRecords floats.now) at (zero_of hyperHyperDualAlgebra) }
+    ensures { result ≡ get_or (hyper_hyper_dual_records floats.now) at (zero_of hyper_hyper_dual_algebra) }
 {
     let first = at * 8;
     HyperHyperDual {
@@ -27,7 +27,7 @@ pub fn read(floats: &[f64], at: usize) -> HyperHyperDual
 // Record number `at` is x. Inner: for the crates above, which show its `requires`.
 pub fn write(floats: &mut [f64], at: usize, x: HyperHyperDual)
     requires { at * 8 + 7 < length floats.old }
-    ensures { hyperHyperDualRecords floats.new ≡ set (hyperHyperDualRecords floats.old) at x }
+    ensures { hyper_hyper_dual_records floats.new ≡ set (hyper_hyper_dual_records floats.old) at x }
 {
     let first = at * 8;
     floats[first] = x.re;
@@ -42,7 +42,7 @@ pub fn write(floats: &mut [f64], at: usize, x: HyperHyperDual)
 
 // From zero, left to right. A length that is not whole records is refused.
 pub fn sum(floats: &[f64]) -> HyperHyperDualAnswer
-    ensures { outcome result ≡ sum_of hyperHyperDualLayout hyperHyperDualAlgebra floats.now }
+    ensures { outcome result ≡ sum_of hyper_hyper_dual_layout hyper_hyper_dual_algebra floats.now }
 {
     if floats.len() % 8 != 0 {
         return HyperHyperDualAnswer::Refused(refusals::WRONG_LENGTH);
@@ -59,7 +59,7 @@ pub fn sum(floats: &[f64]) -> HyperHyperDualAnswer
 
 // From one, left to right. A length that is not whole records is refused.
 pub fn product(floats: &[f64]) -> HyperHyperDualAnswer
-    ensures { outcome result ≡ productOf hyperHyperDualLayout hyperHyperDualAlgebra floats.now }
+    ensures { outcome result ≡ product_of hyper_hyper_dual_layout hyper_hyper_dual_algebra floats.now }
 {
     if floats.len() % 8 != 0 {
         return HyperHyperDualAnswer::Refused(refusals::WRONG_LENGTH);

@@ -1,10 +1,10 @@
 // Calls over `HyperHyperDual`: eight words a record, re, eps1, eps2, eps3, eps1eps2, eps1eps3, eps2eps3 and eps1eps2eps3.
 ghost use Rattle.std.specs.Prelude.{◌≡◌, ◌++◌, ◌+◌, length};
-ghost use Rattle.algebra.specs.Outcome.{mapOutcome};
-ghost use Rattle.hyperhyperdual.specs.Rules.{hyperHyperDualLayout, outcome};
+ghost use Rattle.algebra.specs.Outcome.{map_outcome};
+ghost use Rattle.hyperhyperdual.specs.Rules.{hyper_hyper_dual_layout, outcome};
 ghost use Rattle.floats.specs.Words.{words_of};
-ghost use Rattle.calls.specs.Called.{Sized, unaryOf, binaryOf, byFloatOf, operateOf, answer_of, leaves, calledOf, operatedOf, joinedLeft, summedOf, multipliedOf};
-ghost use Rattle.hyperhyperdual_calls.specs.Kind.{hyperHyperDualKind, hyperHyperDualDerivatives};
+ghost use Rattle.calls.specs.Called.{Sized, unary_of, binary_of, by_float_of, operate_of, answer_of, leaves, called_of, operated_of, joined_left, summed_of, multiplied_of};
+ghost use Rattle.hyperhyperdual_calls.specs.Kind.{hyper_hyper_dual_kind, hyper_hyper_dual_derivatives};
 
 use calls::{Binary, ByFloat, Call, Operation, Unary, predicates, table};
 use floats::words;
@@ -14,7 +14,7 @@ const WIDTH: usize = 8;
 
 // `derivative` and its kin by function number; no other number is one of them.
 fn derivative(function: u32, x: HyperHyperDual) -> HyperHyperDualAnswer
-    ensures { outcome result ≡ hyperHyperDualDerivatives function x }
+    ensures { outcome result ≡ hyper_hyper_dual_derivatives function x }
 {
     match function {
         0x06 => HyperHyperDualAnswer::Value(x.derivative1()),
@@ -25,7 +25,7 @@ fn derivative(function: u32, x: HyperHyperDual) -> HyperHyperDualAnswer
 }
 
 fn unary(op: Unary, x: HyperHyperDual) -> HyperHyperDual
-    ensures { result ≡ unaryOf hyperHyperDualKind op x }
+    ensures { result ≡ unary_of hyper_hyper_dual_kind op x }
 {
     match op {
         Unary::Neg => x.neg(),
@@ -35,7 +35,7 @@ fn unary(op: Unary, x: HyperHyperDual) -> HyperHyperDual
 }
 
 fn binary(op: Binary, x: HyperHyperDual, y: HyperHyperDual) -> HyperHyperDual
-    ensures { result ≡ binaryOf hyperHyperDualKind op x y }
+    ensures { result ≡ binary_of hyper_hyper_dual_kind op x y }
 {
     match op {
         Binary::Add => x.add(y),
@@ -47,7 +47,7 @@ fn binary(op: Binary, x: HyperHyperDual, y: HyperHyperDual) -> HyperHyperDual
 }
 
 fn by_float(op: ByFloat, x: HyperHyperDual, f: f64) -> HyperHyperDual
-    ensures { result ≡ byFloatOf hyperHyperDualKind op x f }
+    ensures { result ≡ by_float_of hyper_hyper_dual_kind op x f }
 {
     match op {
         ByFloat::Mul => x.mul_float(f),
@@ -64,7 +64,7 @@ fn operate(
     y: HyperHyperDual,
     z: HyperHyperDual,
 ) -> HyperHyperDualAnswer
-    ensures { outcome result ≡ operateOf hyperHyperDualKind op x y z }
+    ensures { outcome result ≡ operate_of hyper_hyper_dual_kind op x y z }
 {
     match op {
         Operation::FromRe(re) => HyperHyperDualAnswer::Value(HyperHyperDual::from_re(re)),
@@ -84,8 +84,8 @@ fn operate(
 
 // A record's words to out, or its refusal.
 fn leave(answer: HyperHyperDualAnswer, out: &mut [u64]) -> u32
-    requires { length out.old ≡ hyperHyperDualLayout.width }
-    ensures { (result, out.new) ≡ leaves (mapOutcome words_of (mapOutcome hyperHyperDualLayout.parts (outcome answer))) out.old }
+    requires { length out.old ≡ hyper_hyper_dual_layout.width }
+    ensures { (result, out.new) ≡ leaves (map_outcome words_of (map_outcome hyper_hyper_dual_layout.parts (outcome answer))) out.old }
 {
     match answer {
         HyperHyperDualAnswer::Value(x) => {
@@ -100,8 +100,8 @@ fn leave(answer: HyperHyperDualAnswer, out: &mut [u64]) -> u32
 
 // The words of two records to out.
 fn leave_both(answer: HyperHyperDualSinCos, out: &mut [u64])
-    requires { length out.old ≡ hyperHyperDualLayout.width + hyperHyperDualLayout.width }
-    ensures { out.new ≡ words_of (hyperHyperDualLayout.parts answer.sin ++ hyperHyperDualLayout.parts answer.cos) }
+    requires { length out.old ≡ hyper_hyper_dual_layout.width + hyper_hyper_dual_layout.width }
+    ensures { out.new ≡ words_of (hyper_hyper_dual_layout.parts answer.sin ++ hyper_hyper_dual_layout.parts answer.cos) }
 {
     let s = answer.sin;
     let c = answer.cos;
@@ -113,8 +113,8 @@ fn leave_both(answer: HyperHyperDualSinCos, out: &mut [u64])
 
 // What a call leaves, where out has its size.
 fn run(call: Call, x: HyperHyperDual, y: HyperHyperDual, z: HyperHyperDual, out: &mut [u64]) -> u32
-    requires { Sized hyperHyperDualLayout.width (length out.old) call }
-    ensures { (result, out.new) ≡ leaves (mapOutcome words_of (answer_of hyperHyperDualKind call x y z)) out.old }
+    requires { Sized hyper_hyper_dual_layout.width (length out.old) call }
+    ensures { (result, out.new) ≡ leaves (map_outcome words_of (answer_of hyper_hyper_dual_kind call x y z)) out.old }
 {
     match call {
         Call::Unknown => refusals::WRONG_LENGTH,
@@ -132,7 +132,7 @@ fn run(call: Call, x: HyperHyperDual, y: HyperHyperDual, z: HyperHyperDual, out:
 
 // A call by function number: 0, or the number that it is refused by with nothing written.
 pub fn call(function: u32, exponent: i32, records: &[u64], floats: &[u64], out: &mut [u64]) -> u32
-    ensures { (result, out.new) ≡ calledOf hyperHyperDualKind function exponent records.now floats.now out.old }
+    ensures { (result, out.new) ≡ called_of hyper_hyper_dual_kind function exponent records.now floats.now out.old }
 {
     let call = table::call_of(WIDTH, function, exponent, records.len(), floats, out.len());
     let mut lent = [0.0; 3 * WIDTH];
@@ -145,7 +145,7 @@ pub fn call(function: u32, exponent: i32, records: &[u64], floats: &[u64], out: 
 
 // An operation on two records, without the table: what `call` leaves for its number and no floats.
 pub fn operator(op: Binary, records: &[u64], out: &mut [u64]) -> u32
-    ensures { (result, out.new) ≡ operatedOf hyperHyperDualKind op records.now out.old }
+    ensures { (result, out.new) ≡ operated_of hyper_hyper_dual_kind op records.now out.old }
 {
     if records.len() != 2 * WIDTH {
         return refusals::WRONG_LENGTH;
@@ -162,7 +162,7 @@ pub fn operator(op: Binary, records: &[u64], out: &mut [u64]) -> u32
 
 // A record's parts to out, or its refusal.
 fn leave_floats(answer: HyperHyperDualAnswer, out: &mut [f64]) -> u32
-    ensures { (result, out.new) ≡ joinedLeft hyperHyperDualKind (outcome answer) out.old }
+    ensures { (result, out.new) ≡ joined_left hyper_hyper_dual_kind (outcome answer) out.old }
 {
     if out.len() != WIDTH {
         return refusals::WRONG_LENGTH;
@@ -178,14 +178,14 @@ fn leave_floats(answer: HyperHyperDualAnswer, out: &mut [f64]) -> u32
 
 // The sum of the records of a run.
 pub fn sum(run: &[f64], out: &mut [f64]) -> u32
-    ensures { (result, out.new) ≡ summedOf hyperHyperDualKind run.now out.old }
+    ensures { (result, out.new) ≡ summed_of hyper_hyper_dual_kind run.now out.old }
 {
     leave_floats(hyperhyperdual::sum(run), out)
 }
 
 // The product of the records of a run.
 pub fn product(run: &[f64], out: &mut [f64]) -> u32
-    ensures { (result, out.new) ≡ multipliedOf hyperHyperDualKind run.now out.old }
+    ensures { (result, out.new) ≡ multiplied_of hyper_hyper_dual_kind run.now out.old }
 {
     leave_floats(hyperhyperdual::product(run), out)
 }

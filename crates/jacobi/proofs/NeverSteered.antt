@@ -6,15 +6,15 @@ use lib.ListN.{length}
 use borrow.Fn.Kinds.{Dens, ended_of}
 use contract.Lifetimes.{Lfts}
 use denote.Triple.Clauses.{Lasts, at_exit}
-use Rattle.dual.specs.Rules.{dualAlgebra, dualLayout}
-use Rattle.dual.proofs.Flat.{dual-lawful, dual-agrees}
-use Rattle.dual.proofs.RealParts.{dual-reals}
-use Rattle.jacobi.specs.Entry.{JacobiLeft, jacobiAnswered, jacobiLeft}
+use Rattle.dual.specs.Rules.{dual_algebra, dual_layout}
+use Rattle.dual.proofs.Flat.{dual_lawful, dual_agrees}
+use Rattle.dual.proofs.RealParts.{dual_reals}
+use Rattle.jacobi.specs.Entry.{JacobiLeft, jacobi_answered, jacobi_left}
 use Rattle.jacobi.specs.Answer.{outcome}
 use Rattle.jacobi.specs.SameReals.{SameAbove, SameJacobi}
 use Rattle.jacobi.specs.declared.JacobiAnswer.{JacobiAnswer}
-use Rattle.jacobi.proofs.Slopes.{jacobi-same, below-no-effect}
-use Rattle.jacobi.proofs.OneAnswer.{jacobi-one}
+use Rattle.jacobi.proofs.Slopes.{jacobi_same, below_no_effect}
+use Rattle.jacobi.proofs.OneAnswer.{jacobi_one}
 use Rattle.jacobi.proofs.jacobi_eigenvalue as entry
 
 module _ (κs κs' : Lfts 3) (a : Dens κs entry.Kinds.ps) (a' : Dens κs' entry.Kinds.ps) (x x' : JacobiAnswer)
@@ -23,21 +23,21 @@ module _ (κs κs' : Lfts 3) (a : Dens κs entry.Kinds.ps) (a' : Dens κs' entry
     (p' : entry.Reads.Post κs' a' x' (at_exit (ended_of 3 entry.Kinds.ps entry.Kinds.r) κs' a' v'))
     (n : a.0 ≡ a'.0) (limit : a.1.1.0 ≡ a'.1.1.0) where
   -- what the second call leaves, by the size and the limit of the first
-  second : jacobiAnswered (outcome x') v'.1.1.1.0 v'.1.1.1.1.0
-      ≡ jacobiLeft dualAlgebra dualLayout a.0 a'.1.0.now a.1.1.0 a'.1.1.1.0.now a'.1.1.1.1.0.now
-  second = p' ∙ (λ i. jacobiLeft dualAlgebra dualLayout (sym n i) a'.1.0.now (sym limit i) a'.1.1.1.0.now a'.1.1.1.1.0.now)
+  second : jacobi_answered (outcome x') v'.1.1.1.0 v'.1.1.1.1.0
+      ≡ jacobi_left dual_algebra dual_layout a.0 a'.1.0.now a.1.1.0 a'.1.1.1.0.now a'.1.1.1.1.0.now
+  second = p' ∙ (λ i. jacobi_left dual_algebra dual_layout (sym n i) a'.1.0.now (sym limit i) a'.1.1.1.0.now a'.1.1.1.1.0.now)
 
-  pub jacobi-never-steered : SameAbove 2 a.0 1 a.1.0.now a'.1.0.now
+  pub jacobi_never_steered : SameAbove 2 a.0 1 a.1.0.now a'.1.0.now
       → length a.1.1.1.0.now ≡ length a'.1.1.1.0.now → length a.1.1.1.1.0.now ≡ length a'.1.1.1.1.0.now
-      → SameJacobi 2 (jacobiAnswered (outcome x) v.1.1.1.0 v.1.1.1.1.0) (jacobiAnswered (outcome x') v'.1.1.1.0 v'.1.1.1.1.0)
-  jacobi-never-steered alike d w =
-      subst (λ (l : JacobiLeft). SameJacobi 2 l (jacobiAnswered (outcome x') v'.1.1.1.0 v'.1.1.1.1.0)) (sym p)
-      (subst (SameJacobi 2 (jacobiLeft dualAlgebra dualLayout a.0 a.1.0.now a.1.1.0 a.1.1.1.0.now a.1.1.1.1.0.now)) (sym second)
-      (jacobi-same dualAlgebra dualLayout dual-lawful dual-agrees a.0 dual-reals a.1.0.now a'.1.0.now a.1.1.0 _ _ _ _ alike d w))
+      → SameJacobi 2 (jacobi_answered (outcome x) v.1.1.1.0 v.1.1.1.1.0) (jacobi_answered (outcome x') v'.1.1.1.0 v'.1.1.1.1.0)
+  jacobi_never_steered alike d w =
+      subst (λ (l : JacobiLeft). SameJacobi 2 l (jacobi_answered (outcome x') v'.1.1.1.0 v'.1.1.1.1.0)) (sym p)
+      (subst (SameJacobi 2 (jacobi_left dual_algebra dual_layout a.0 a.1.0.now a.1.1.0 a.1.1.1.0.now a.1.1.1.1.0.now)) (sym second)
+      (jacobi_same dual_algebra dual_layout dual_lawful dual_agrees a.0 dual_reals a.1.0.now a'.1.0.now a.1.1.0 _ _ _ _ alike d w))
 
-  pub jacobi-below-unread : SameAbove 2 a.0 2 a.1.0.now a'.1.0.now → a.1.1.1.0.now ≡ a'.1.1.1.0.now → a.1.1.1.1.0.now ≡ a'.1.1.1.1.0.now
+  pub jacobi_below_unread : SameAbove 2 a.0 2 a.1.0.now a'.1.0.now → a.1.1.1.0.now ≡ a'.1.1.1.0.now → a.1.1.1.1.0.now ≡ a'.1.1.1.1.0.now
       → (x ≡ x') × ((v.1.1.1.0 ≡ v'.1.1.1.0) × (v.1.1.1.1.0 ≡ v'.1.1.1.1.0))
-  jacobi-below-unread alike d w =
-      let e = p ∙ below-no-effect dualAlgebra dualLayout dual-lawful dual-agrees a.0 a.1.0.now a'.1.0.now a.1.1.0 a.1.1.1.0.now a.1.1.1.1.0.now alike
-      ∙ (λ i. jacobiLeft dualAlgebra dualLayout a.0 a'.1.0.now a.1.1.0 (d i) (w i)) ∙ sym second in
-      (jacobi-one x x' (ap (λ (l : JacobiLeft). l.answer) e), (ap (λ (l : JacobiLeft). l.values) e, ap (λ (l : JacobiLeft). l.vectors) e))
+  jacobi_below_unread alike d w =
+      let e = p ∙ below_no_effect dual_algebra dual_layout dual_lawful dual_agrees a.0 a.1.0.now a'.1.0.now a.1.1.0 a.1.1.1.0.now a.1.1.1.1.0.now alike
+      ∙ (λ i. jacobi_left dual_algebra dual_layout a.0 a'.1.0.now a.1.1.0 (d i) (w i)) ∙ sym second in
+      (jacobi_one x x' (ap (λ (l : JacobiLeft). l.answer) e), (ap (λ (l : JacobiLeft). l.values) e, ap (λ (l : JacobiLeft). l.vectors) e))

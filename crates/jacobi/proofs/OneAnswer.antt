@@ -11,18 +11,18 @@ use Rattle.jacobi.proofs.jacobi_eigenvalue as entry
 use Rattle.jacobi.proofs.JacobiAnswer.number as number
 
 -- document 01's reading tells the answers apart
-pub jacobi-one : (x y : JacobiAnswer) → outcome x ≡ outcome y → x ≡ y
-jacobi-one (Done s) (Done t) e = cc
-jacobi-one (Done s) (Refused k) e = cc
-jacobi-one (Refused k) (Done t) e = cc
-jacobi-one (Refused k) (Refused j) e = cc
+pub jacobi_one : (x y : JacobiAnswer) → outcome x ≡ outcome y → x ≡ y
+jacobi_one (Done s) (Done t) e = cc
+jacobi_one (Done s) (Refused k) e = cc
+jacobi_one (Refused k) (Done t) e = cc
+jacobi_one (Refused k) (Refused j) e = cc
 
-pub jacobi-only : Only 3 entry.Kinds.ps entry.Kinds.r entry.Reads.Pre entry.Reads.Post
-jacobi-only κs a x y v w h p q =
+pub jacobi_only : Only 3 entry.Kinds.ps entry.Kinds.r entry.Reads.Pre entry.Reads.Post
+jacobi_only κs a x y v w h p q =
     let e = p ∙ sym q in (
-      jacobi-one x y (ap (λ (l : JacobiLeft). l.answer) e),
+      jacobi_one x y (ap (λ (l : JacobiLeft). l.answer) e),
       λ i. at_exit (ended_of 3 entry.Kinds.ps entry.Kinds.r) κs a (v.0, (v.1.0, (v.1.1.0, (ap (λ (l : JacobiLeft). l.values) e i, (ap (λ (l : JacobiLeft). l.vectors) e i, tt))))),
     )
 
-pub number-only : Only 0 number.Kinds.ps number.Kinds.r number.Reads.Pre number.Reads.Post
-number-only κs a x y v w h p q = (p ∙ sym q, refl)
+pub number_only : Only 0 number.Kinds.ps number.Kinds.r number.Reads.Pre number.Reads.Post
+number_only κs a x y v w h p q = (p ∙ sym q, refl)

@@ -8,47 +8,47 @@ use lib.Ieee.{Float, lt}
 use borrow.Author.Tests.{eq-eqb, ne_eqb}
 use Rattle.algebra.specs.Algebra.{Algebra, zero_of}
 use Rattle.algebra.specs.Loop.{upto}
-use Rattle.algebra.proofs.Loop.{upto_turn, upto-end}
-use Rattle.dual.specs.Rules.{dualAlgebra, dualRecords}
+use Rattle.algebra.proofs.Loop.{upto_turn, upto_end}
+use Rattle.dual.specs.Rules.{dual_algebra, dual_records}
 use Rattle.dual.specs.declared.Dual.{Dual}
 use Rattle.matrices.specs.Matrix.{Square, exchange}
 use Rattle.rotations.specs.Rotation.{item}
-use Rattle.jacobi.specs.Sort.{Pairs, pairs, eigen, ended, smaller, least, exchangeColumns, bringSmallest, select, sort, ordered, jacobiOf}
-use Rattle.jacobi.specs.Sweeps.{Run, start, step, sweepsOf}
+use Rattle.jacobi.specs.Sort.{Pairs, pairs, eigen, ended, smaller, least, exchange_columns, bring_smallest, select, sort, ordered, jacobi_of}
+use Rattle.jacobi.specs.Sweeps.{Run, start, step, sweeps_of}
 
 module _ {R : Type 0} (A : Algebra R) (n : ℕ) where
   module _ (d : List R) (l m : ℕ) (x y : R) (ex : x ≡ item A d l) (ey : y ≡ item A d m) where
-    by-test : (t : Bool) → lt (A.re x) (A.re y) ≡ t → cond t l m ≡ smaller A n d l m
+    by_test : (t : Bool) → lt (A.re x) (A.re y) ≡ t → cond t l m ≡ smaller A n d l m
     unfolding smaller
-    by-test t et = ap (λ (c : Bool). cond c l m) (sym et ∙ (λ i. lt (A.re (ex i)) (A.re (ey i))))
+    by_test t et = ap (λ (c : Bool). cond c l m) (sym et ∙ (λ i. lt (A.re (ex i)) (A.re (ey i))))
 
-    pub smaller-moves : lt (A.re x) (A.re y) ≡ true → l ≡ smaller A n d l m
-    smaller-moves e = by-test true e
+    pub smaller_moves : lt (A.re x) (A.re y) ≡ true → l ≡ smaller A n d l m
+    smaller_moves e = by_test true e
 
-    pub smaller-stays : lt (A.re x) (A.re y) ≡ false → m ≡ smaller A n d l m
-    smaller-stays e = by-test false e
+    pub smaller_stays : lt (A.re x) (A.re y) ≡ false → m ≡ smaller A n d l m
+    smaller_stays e = by_test false e
 
   -- the least from k on is at k already, or is brought there
   module _ (k m : ℕ) (d v : List R) (em : m ≡ least A n d k) where
     brought : Bool → Pairs R
-    brought t = cond t (pairs d v) (pairs (exchange (zero_of A) (least A n d k) k d) (exchangeColumns A n (least A n d k) k v))
+    brought t = cond t (pairs d v) (pairs (exchange (zero_of A) (least A n d k) k d) (exchange_columns A n (least A n d k) k v))
 
-    pub select-stays : m ≡ k → pairs d v ≡ select A n k (pairs d v)
-    unfolding select bringSmallest brought
-    select-stays h = sym (ap brought (eq-eqb (least A n d k) k (sym em ∙ h)))
+    pub select_stays : m ≡ k → pairs d v ≡ select A n k (pairs d v)
+    unfolding select bring_smallest brought
+    select_stays h = sym (ap brought (eq-eqb (least A n d k) k (sym em ∙ h)))
 
-    pub select-moves : (d' v' : List R) → (m ≡ k → ⊥) → d' ≡ exchange (zero_of A) m k d → v' ≡ exchangeColumns A n m k v → pairs d' v' ≡ select A n k (pairs d v)
-    unfolding select bringSmallest brought
-    select-moves d' v' h ed ev =
+    pub select_moves : (d' v' : List R) → (m ≡ k → ⊥) → d' ≡ exchange (zero_of A) m k d → v' ≡ exchange_columns A n m k v → pairs d' v' ≡ select A n k (pairs d v)
+    unfolding select bring_smallest brought
+    select_moves d' v' h ed ev =
         (λ i. pairs (ed i) (ev i))
-        ∙ (λ i. pairs (exchange (zero_of A) (em i) k d) (exchangeColumns A n (em i) k v))
+        ∙ (λ i. pairs (exchange (zero_of A) (em i) k d) (exchange_columns A n (em i) k v))
         ∙ sym (ap brought (ne_eqb (least A n d k) k (λ z. h (em ∙ z))))
 
   -- the whole run: what it starts from, its sweeps, its order
   pub run_by : (limit : ℕ) (a : List R) (r : Run R) (values vectors values' vectors' : List R) (sweeps rotations : ℕ) (stopped : Bool) → r ≡ start A n a
       → eigen values vectors sweeps rotations stopped ≡ ended (upto 0 limit (step A n) r) → pairs values' vectors' ≡ sort A n (pairs values vectors)
-      → eigen values' vectors' sweeps rotations stopped ≡ jacobiOf A n limit a
-  unfolding jacobiOf ordered sweepsOf
+      → eigen values' vectors' sweeps rotations stopped ≡ jacobi_of A n limit a
+  unfolding jacobi_of ordered sweeps_of
   run_by limit a r values vectors values' vectors' sweeps rotations stopped e1 e2 e3 =
       ap (λ (p : Pairs R). eigen p.d p.v sweeps rotations stopped) e3 ∙ ap (ordered A n) (e2 ∙ ap (λ (t : Run R). ended (upto 0 limit (step A n) t)) e1)
 
@@ -57,11 +57,11 @@ pub record Sorting (n last : ℕ) (whole : Pairs Dual) (d v : List Float) (k : �
   pub inside : last < n
   pub values : length d ≡ n * 2
   pub square : Square 2 n v
-  pub rest : upto k last (select dualAlgebra n) (pairs (dualRecords d) (dualRecords v)) ≡ whole
+  pub rest : upto k last (select dual_algebra n) (pairs (dual_records d) (dual_records v)) ≡ whole
 
 module _ (n last : ℕ) (whole : Pairs Dual) (d v : List Float) (k : ℕ) (s : Sorting n last whole d v k) where
-  pub sort-turn : (d' v' : List Float) → k < last → length d' ≡ length d → Square 2 n v' → pairs (dualRecords d') (dualRecords v') ≡ select dualAlgebra n k (pairs (dualRecords d) (dualRecords v)) → Sorting n last whole d' v' (k + 1)
-  sort-turn d' v' h l q e = record { inside = s.inside; values = l ∙ s.values; square = q; rest = upto_turn k last (select dualAlgebra n) (pairs (dualRecords d) (dualRecords v)) (pairs (dualRecords d') (dualRecords v')) h e s.rest }
+  pub sort_turn : (d' v' : List Float) → k < last → length d' ≡ length d → Square 2 n v' → pairs (dual_records d') (dual_records v') ≡ select dual_algebra n k (pairs (dual_records d) (dual_records v)) → Sorting n last whole d' v' (k + 1)
+  sort_turn d' v' h l q e = record { inside = s.inside; values = l ∙ s.values; square = q; rest = upto_turn k last (select dual_algebra n) (pairs (dual_records d) (dual_records v)) (pairs (dual_records d') (dual_records v')) h e s.rest }
 
-  pub sort-end : last ≤ k → pairs (dualRecords d) (dualRecords v) ≡ whole
-  sort-end h = upto-end k last (select dualAlgebra n) (pairs (dualRecords d) (dualRecords v)) h s.rest
+  pub sort_end : last ≤ k → pairs (dual_records d) (dual_records v) ≡ whole
+  sort_end h = upto_end k last (select dual_algebra n) (pairs (dual_records d) (dual_records v)) h s.rest

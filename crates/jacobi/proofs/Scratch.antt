@@ -11,17 +11,17 @@ use Rattle.refusals.specs.Largest as largest
 use Rattle.real.specs.Operations as float
 use Rattle.algebra.specs.Algebra.{Algebra, zero_of}
 use Rattle.algebra.specs.Flat.{Layout, decode}
-use Rattle.algebra.proofs.Flat.{decode-blank}
+use Rattle.algebra.proofs.Flat.{decode_blank}
 use Rattle.algebra.proofs.Laws.{Laws}
 use Rattle.matrices.specs.Matrix.{Square}
 
 -- a square of `Dual` records by its size
-pub square-of : (n : ℕ) (l : List Float) → n ≤ largest.n → length l ≡ n * n * 2 → Square 2 n l
-square-of n l h e = record { small = h; some = omega arith; narrow = omega arith; full = e }
+pub square_of : (n : ℕ) (l : List Float) → n ≤ largest.n → length l ≡ n * n * 2 → Square 2 n l
+square_of n l h e = record { small = h; some = omega arith; narrow = omega arith; full = e }
 
 -- what n asks for fits a scratch made for the bound: a matrix, and a row
-pub matrix-fits : (bound n : ℕ) → n ≤ bound → n * n * 2 ≤ bound * bound * 2
-matrix-fits bound n h = mul-le-mul_right 2 (mul-le-mul h h)
+pub matrix_fits : (bound n : ℕ) → n ≤ bound → n * n * 2 ≤ bound * bound * 2
+matrix_fits bound n h = mul-le-mul_right 2 (mul-le-mul h h)
 
 pub row_fits : (bound n : ℕ) → n ≤ bound → n * 2 ≤ bound * 2
 row_fits bound n h = mul-le-mul_right 2 h
@@ -31,20 +31,20 @@ pub scratch : (k m : ℕ) → k ≤ m → k ≡ length (take k (replicate m floa
 scratch k m h = sym (length-take-le k (replicate m float.zero) (rw length-replicate h))
 
 -- so a scratch made for the bound holds a matrix, and a row
-pub matrix-scratch : (bound n : ℕ) → n ≤ bound → n * n * 2 ≡ length (take (n * n * 2) (replicate (bound * bound * 2) float.zero))
-matrix-scratch bound n h = scratch (n * n * 2) (bound * bound * 2) (matrix-fits bound n h)
+pub matrix_scratch : (bound n : ℕ) → n ≤ bound → n * n * 2 ≡ length (take (n * n * 2) (replicate (bound * bound * 2) float.zero))
+matrix_scratch bound n h = scratch (n * n * 2) (bound * bound * 2) (matrix_fits bound n h)
 
-pub row-scratch : (bound n : ℕ) → n ≤ bound → n * 2 ≡ length (take (n * 2) (replicate (bound * 2) float.zero))
-row-scratch bound n h = scratch (n * 2) (bound * 2) (row_fits bound n h)
+pub row_scratch : (bound n : ℕ) → n ≤ bound → n * 2 ≡ length (take (n * 2) (replicate (bound * 2) float.zero))
+row_scratch bound n h = scratch (n * 2) (bound * 2) (row_fits bound n h)
 
 -- and is as `run` asks
-pub scratch-suits : (bound n : ℕ) → n ≤ bound → n ≤ largest.n → Square 2 n (take (n * n * 2) (replicate (bound * bound * 2) float.zero)) × (length (take (n * 2) (replicate (bound * 2) float.zero)) ≡ n * 2)
-scratch-suits bound n h small = (square-of n _ small (sym (matrix-scratch bound n h)), sym (row-scratch bound n h))
+pub scratch_suits : (bound n : ℕ) → n ≤ bound → n ≤ largest.n → Square 2 n (take (n * n * 2) (replicate (bound * bound * 2) float.zero)) × (length (take (n * 2) (replicate (bound * 2) float.zero)) ≡ n * 2)
+scratch_suits bound n h small = (square_of n _ small (sym (matrix_scratch bound n h)), sym (row_scratch bound n h))
 
 module _ {R : Type 0} {A : Algebra R} {L : Layout R} (Q : Laws A L) where
   -- floats of k records, cleared, are k records of zero
   pub blank : (k : ℕ) (l l' : List Float) → length l ≡ k * L.width → l' ≡ replicate (length l) float.zero → decode L l' ≡ replicate k (zero_of A)
-  blank k l l' h e = ap (decode L) (e ∙ ap (λ (i : ℕ). replicate i float.zero) h) ∙ decode-blank L Q.lawful A Q.agrees k
+  blank k l l' h e = ap (decode L) (e ∙ ap (λ (i : ℕ). replicate i float.zero) h) ∙ decode_blank L Q.lawful A Q.agrees k
 
   -- a copy holds what was copied
   pub copied : (l l' : List Float) (m : List R) → l' ≡ l → decode L l ≡ m → decode L l' ≡ m

@@ -12,18 +12,18 @@ use borrow.Author.Tests.{ltb-false, eqb-true, eqb-false, eq-eqb, ne_eqb}
 use Rattle.refusals.specs.Largest as largest
 use Rattle.refusals.specs.Number as refusal
 use Rattle.algebra.specs.Algebra.{Algebra, RealParts, reals, zero_of}
-use Rattle.algebra.specs.Flat.{Layout, Lawful, Agrees, recordAt, decode}
+use Rattle.algebra.specs.Flat.{Layout, Lawful, Agrees, record_at, decode}
 use Rattle.algebra.specs.Outcome.{value, refused}
-use Rattle.algebra.proofs.Flat.{decode-size, decode-at, decode-length, record_same, encode-reals}
+use Rattle.algebra.proofs.Flat.{decode_size, decode_at, decode_length, record_same, encode_reals}
 use Rattle.matrices.specs.Matrix.{cell}
 use Rattle.matrices.proofs.Places.{place}
 use Rattle.orders.proofs.Permutation.{both}
 use Rattle.matrices.proofs.Answers.{passed, allowed}
-use Rattle.jacobi.specs.Sort.{Eigen, jacobiOf}
-use Rattle.jacobi.specs.Entry.{jacobiRefusal, jacobiAnswered, jacobiDone, jacobiLeft}
+use Rattle.jacobi.specs.Sort.{Eigen, jacobi_of}
+use Rattle.jacobi.specs.Entry.{jacobi_refusal, jacobi_answered, jacobi_done, jacobi_left}
 use Rattle.jacobi.specs.SameReals.{SameAbove, SameJacobi}
-use Rattle.jacobi.proofs.Carry.{mapEigen}
-use Rattle.jacobi.proofs.Above.{above, below-unread, above_same, jacobi-seen, map_same}
+use Rattle.jacobi.proofs.Carry.{map_eigen}
+use Rattle.jacobi.proofs.Above.{above, below_unread, above_same, jacobi_seen, map_same}
 
 -- ---- what a number of 0 tells
 
@@ -39,11 +39,11 @@ pub record JacobiFits (w n a k d v : ℕ) : Type 0 where
   pub vectors : v ≡ n * n * w
   pub limit : k ≤ largest.limit
 
-pub jacobi-fits : (w n a limit values vectors : ℕ) → jacobiRefusal w n a limit values vectors ≡ 0 → JacobiFits w n a limit values vectors
-jacobi-fits w n a limit d v e =
+pub jacobi_fits : (w n a limit values vectors : ℕ) → jacobi_refusal w n a limit values vectors ≡ 0 → JacobiFits w n a limit values vectors
+jacobi_fits w n a limit d v e =
     let s = passed (ltb largest.n n) 0 _ e in
     let z = passed (eqb n 0) 2 _ s.1 in
-    let l = allowed (eqb a (n * n * w) && (eqb d (n * w) && eqb v (n * n * w))) 1 (cond (ltb largest.limit limit) refusal.limitTooLarge 0) z.1 in
+    let l = allowed (eqb a (n * n * w) && (eqb d (n * w) && eqb v (n * n * w))) 1 (cond (ltb largest.limit limit) refusal.limit_too_large 0) z.1 in
     let x = both (eqb a (n * n * w)) (eqb d (n * w) && eqb v (n * n * w)) l.0 in
     let y = both (eqb d (n * w)) (eqb v (n * n * w)) x.1 in
     let t = passed (ltb largest.limit limit) 3 0 l.1 in
@@ -58,83 +58,83 @@ jacobi-fits w n a limit d v e =
 
 module _ {R : Type 0} (A : Algebra R) (L : Layout R) (n : ℕ) where
   -- the two ways out of the entry
-  pub jacobi-done : (a : List Float) (limit : ℕ) (d v : List Float) → jacobiRefusal L.width n (length a) limit (length d) (length v) ≡ 0
-      → jacobiDone A L n (jacobiOf A n limit (decode L a)) ≡ jacobiLeft A L n a limit d v
-  unfolding jacobiLeft
-  jacobi-done a limit d v e = sym (ap (λ (t : Bool). cond t (jacobiDone A L n (jacobiOf A n limit (decode L a))) (jacobiAnswered (refused (jacobiRefusal L.width n (length a) limit (length d) (length v))) d v)) (eq-eqb _ 0 e))
+  pub jacobi_done_lem : (a : List Float) (limit : ℕ) (d v : List Float) → jacobi_refusal L.width n (length a) limit (length d) (length v) ≡ 0
+      → jacobi_done A L n (jacobi_of A n limit (decode L a)) ≡ jacobi_left A L n a limit d v
+  unfolding jacobi_left
+  jacobi_done_lem a limit d v e = sym (ap (λ (t : Bool). cond t (jacobi_done A L n (jacobi_of A n limit (decode L a))) (jacobi_answered (refused (jacobi_refusal L.width n (length a) limit (length d) (length v))) d v)) (eq-eqb _ 0 e))
 
-  pub jacobi-refused : (a : List Float) (limit : ℕ) (d v : List Float) (k : ℕ) → k ≡ jacobiRefusal L.width n (length a) limit (length d) (length v) → (k ≡ 0 → ⊥)
-      → jacobiAnswered (refused k) d v ≡ jacobiLeft A L n a limit d v
-  unfolding jacobiLeft
-  jacobi-refused a limit d v k e ne =
-      ap (λ (j : ℕ). jacobiAnswered (refused j) d v) e
-      ∙ sym (ap (λ (t : Bool). cond t (jacobiDone A L n (jacobiOf A n limit (decode L a))) (jacobiAnswered (refused (jacobiRefusal L.width n (length a) limit (length d) (length v))) d v)) (ne_eqb _ 0 (λ z. ne (e ∙ z))))
+  pub jacobi_refused : (a : List Float) (limit : ℕ) (d v : List Float) (k : ℕ) → k ≡ jacobi_refusal L.width n (length a) limit (length d) (length v) → (k ≡ 0 → ⊥)
+      → jacobi_answered (refused k) d v ≡ jacobi_left A L n a limit d v
+  unfolding jacobi_left
+  jacobi_refused a limit d v k e ne =
+      ap (λ (j : ℕ). jacobi_answered (refused j) d v) e
+      ∙ sym (ap (λ (t : Bool). cond t (jacobi_done A L n (jacobi_of A n limit (decode L a))) (jacobi_answered (refused (jacobi_refusal L.width n (length a) limit (length d) (length v))) d v)) (ne_eqb _ 0 (λ z. ne (e ∙ z))))
 
 -- ---- two calls
 
 module _ {R : Type 0} (A : Algebra R) (L : Layout R) (W : Lawful L) (G : Agrees A L) (n : ℕ) where
   -- the record at row r and column c, in the floats
-  pub cell-record : (a : List Float) (r c : ℕ) → length a ≡ n * n * L.width → r < n → c < n → cell A n (decode L a) r c ≡ recordAt L a (r * n + c)
+  pub cell_record : (a : List Float) (r c : ℕ) → length a ≡ n * n * L.width → r < n → c < n → cell A n (decode L a) r c ≡ record_at L a (r * n + c)
   unfolding cell
-  cell-record a r c e hr hc = decode-at L W a (r * n + c) (zero_of A) (omega (arith, place n r c hr hc, decode-size L W a (n * n) e))
+  cell_record a r c e hr hc = decode_at L W a (r * n + c) (zero_of A) (omega (arith, place n r c hr hc, decode_size L W a (n * n) e))
 
-  records-alike : (a b : List Float) → length a ≡ n * n * L.width → SameAbove L.width n L.width a b → (r c : ℕ) → r ≤ c → c < n → cell A n (decode L a) r c ≡ cell A n (decode L b) r c
-  records-alike a b e h r c l u =
-      cell-record a r c e (omega arith) u ∙ record_same L W a b (r * n + c) (r * n + c) (λ i t. h.parts r c i l u t) ∙ sym (cell-record b r c (sym h.size ∙ e) (omega arith) u)
+  records_alike : (a b : List Float) → length a ≡ n * n * L.width → SameAbove L.width n L.width a b → (r c : ℕ) → r ≤ c → c < n → cell A n (decode L a) r c ≡ cell A n (decode L b) r c
+  records_alike a b e h r c l u =
+      cell_record a r c e (omega arith) u ∙ record_same L W a b (r * n + c) (r * n + c) (λ i t. h.parts r c i l u t) ∙ sym (cell_record b r c (sym h.size ∙ e) (omega arith) u)
 
-  reals-alike : (a b : List Float) → length a ≡ n * n * L.width → SameAbove L.width n 1 a b → (r c : ℕ) → r ≤ c → c < n → A.re (cell A n (decode L a) r c) ≡ A.re (cell A n (decode L b) r c)
-  reals-alike a b e h r c l u =
-      ap A.re (cell-record a r c e (omega arith) u) ∙ G.first _ ∙ h.parts r c 0 l u (omega arith) ∙ sym (ap A.re (cell-record b r c (sym h.size ∙ e) (omega arith) u) ∙ G.first _)
+  reals_alike : (a b : List Float) → length a ≡ n * n * L.width → SameAbove L.width n 1 a b → (r c : ℕ) → r ≤ c → c < n → A.re (cell A n (decode L a) r c) ≡ A.re (cell A n (decode L b) r c)
+  reals_alike a b e h r c l u =
+      ap A.re (cell_record a r c e (omega arith) u) ∙ G.first _ ∙ h.parts r c 0 l u (omega arith) ∙ sym (ap A.re (cell_record b r c (sym h.size ∙ e) (omega arith) u) ∙ G.first _)
 
   sizes : (a b : List Float) → length a ≡ length b → length (decode L a) ≡ length (decode L b)
-  sizes a b e = decode-length L W a ∙ ap (λ (k : ℕ). k / L.width) e ∙ sym (decode-length L W b)
+  sizes a b e = decode_length L W a ∙ ap (λ (k : ℕ). k / L.width) e ∙ sym (decode_length L W b)
 
   -- what stands below the diagonal has no effect at all
-  pub below-no-effect : (a b : List Float) (limit : ℕ) (d v : List Float) → SameAbove L.width n L.width a b → jacobiLeft A L n a limit d v ≡ jacobiLeft A L n b limit d v
-  below-no-effect a b limit d v h = go (eqb (number (length a)) 0) refl
+  pub below_no_effect : (a b : List Float) (limit : ℕ) (d v : List Float) → SameAbove L.width n L.width a b → jacobi_left A L n a limit d v ≡ jacobi_left A L n b limit d v
+  below_no_effect a b limit d v h = go (eqb (number (length a)) 0) refl
     where
       number : ℕ → ℕ
-      number k = jacobiRefusal L.width n k limit (length d) (length v)
+      number k = jacobi_refusal L.width n k limit (length d) (length v)
 
-      go : (t : Bool) → eqb (number (length a)) 0 ≡ t → jacobiLeft A L n a limit d v ≡ jacobiLeft A L n b limit d v
+      go : (t : Bool) → eqb (number (length a)) 0 ≡ t → jacobi_left A L n a limit d v ≡ jacobi_left A L n b limit d v
       go true e =
           let z = eqb-true (number (length a)) 0 e in
-          let f = jacobi-fits L.width n (length a) limit (length d) (length v) z in
-          let same = below-unread A n limit (decode L a)
-          ∙ ap (jacobiOf A n limit) (sym (map_same (above A n (decode L a))) ∙ above_same A n (λ x. x) (decode L a) (decode L b) f.some (sizes a b h.size) (records-alike a b f.input h) ∙ map_same (above A n (decode L b)))
-          ∙ sym (below-unread A n limit (decode L b)) in
-          sym (jacobi-done A L n a limit d v z) ∙ ap (jacobiDone A L n) same ∙ jacobi-done A L n b limit d v (ap number (sym h.size) ∙ z)
+          let f = jacobi_fits L.width n (length a) limit (length d) (length v) z in
+          let same = below_unread A n limit (decode L a)
+          ∙ ap (jacobi_of A n limit) (sym (map_same (above A n (decode L a))) ∙ above_same A n (λ x. x) (decode L a) (decode L b) f.some (sizes a b h.size) (records_alike a b f.input h) ∙ map_same (above A n (decode L b)))
+          ∙ sym (below_unread A n limit (decode L b)) in
+          sym (jacobi_done_lem A L n a limit d v z) ∙ ap (jacobi_done A L n) same ∙ jacobi_done_lem A L n b limit d v (ap number (sym h.size) ∙ z)
       go false e =
           let z = eqb-false (number (length a)) 0 e in
-          sym (jacobi-refused A L n a limit d v (number (length a)) refl z) ∙ jacobi-refused A L n b limit d v (number (length a)) (ap number h.size) z
+          sym (jacobi_refused A L n a limit d v (number (length a)) refl z) ∙ jacobi_refused A L n b limit d v (number (length a)) (ap number h.size) z
 
   -- slopes never steer: two calls with the same size, lengths, limit and real parts of what is read
-  pub jacobi-same : RealParts A → (a b : List Float) (limit : ℕ) (d d' v v' : List Float) → SameAbove L.width n 1 a b → length d ≡ length d' → length v ≡ length v'
-      → SameJacobi L.width (jacobiLeft A L n a limit d v) (jacobiLeft A L n b limit d' v')
-  jacobi-same K a b limit d d' v v' h hd hv = go (eqb (number (length a) (length d) (length v)) 0) refl
+  pub jacobi_same : RealParts A → (a b : List Float) (limit : ℕ) (d d' v v' : List Float) → SameAbove L.width n 1 a b → length d ≡ length d' → length v ≡ length v'
+      → SameJacobi L.width (jacobi_left A L n a limit d v) (jacobi_left A L n b limit d' v')
+  jacobi_same K a b limit d d' v v' h hd hv = go (eqb (number (length a) (length d) (length v)) 0) refl
     where
       number : ℕ → ℕ → ℕ → ℕ
-      number j k l = jacobiRefusal L.width n j limit k l
+      number j k l = jacobi_refusal L.width n j limit k l
 
       alike : number (length a) (length d) (length v) ≡ number (length b) (length d') (length v')
       alike = λ i. number (h.size i) (hd i) (hv i)
 
-      done : (x y : Eigen R) → mapEigen A.re x ≡ mapEigen A.re y → SameJacobi L.width (jacobiDone A L n x) (jacobiDone A L n y)
+      done : (x y : Eigen R) → map_eigen A.re x ≡ map_eigen A.re y → SameJacobi L.width (jacobi_done A L n x) (jacobi_done A L n y)
       done x y e =
           record {
             answer = ap (λ (z : Eigen Float). value z.sweeps) e;
-            values = λ f. encode-reals L W A G x.values ∙ ap (λ (z : Eigen Float). z.values) e ∙ sym (encode-reals L W A G y.values);
-            vectors = λ f. encode-reals L W A G x.vectors ∙ ap (λ (z : Eigen Float). z.vectors) e ∙ sym (encode-reals L W A G y.vectors);
+            values = λ f. encode_reals L W A G x.values ∙ ap (λ (z : Eigen Float). z.values) e ∙ sym (encode_reals L W A G y.values);
+            vectors = λ f. encode_reals L W A G x.vectors ∙ ap (λ (z : Eigen Float). z.vectors) e ∙ sym (encode_reals L W A G y.vectors);
           }
 
-      go : (t : Bool) → eqb (number (length a) (length d) (length v)) 0 ≡ t → SameJacobi L.width (jacobiLeft A L n a limit d v) (jacobiLeft A L n b limit d' v')
+      go : (t : Bool) → eqb (number (length a) (length d) (length v)) 0 ≡ t → SameJacobi L.width (jacobi_left A L n a limit d v) (jacobi_left A L n b limit d' v')
       go true e =
           let z = eqb-true (number (length a) (length d) (length v)) 0 e in
-          let f = jacobi-fits L.width n (length a) limit (length d) (length v) z in
-          let same = jacobi-seen K n limit (decode L a)
-          ∙ ap (jacobiOf reals n limit) (above_same A n A.re (decode L a) (decode L b) f.some (sizes a b h.size) (reals-alike a b f.input h))
-          ∙ sym (jacobi-seen K n limit (decode L b)) in
-          rw (← jacobi-done A L n a limit d v z, ← jacobi-done A L n b limit d' v' (sym alike ∙ z)) (done _ _ same)
+          let f = jacobi_fits L.width n (length a) limit (length d) (length v) z in
+          let same = jacobi_seen K n limit (decode L a)
+          ∙ ap (jacobi_of reals n limit) (above_same A n A.re (decode L a) (decode L b) f.some (sizes a b h.size) (reals_alike a b f.input h))
+          ∙ sym (jacobi_seen K n limit (decode L b)) in
+          rw (← jacobi_done_lem A L n a limit d v z, ← jacobi_done_lem A L n b limit d' v' (sym alike ∙ z)) (done _ _ same)
       go false e =
           let z = eqb-false (number (length a) (length d) (length v)) 0 e in
-          rw (← jacobi-refused A L n a limit d v _ refl z, ← jacobi-refused A L n b limit d' v' _ alike z) (record { answer = refl; values = λ f. absurd f; vectors = λ f. absurd f })
+          rw (← jacobi_refused A L n a limit d v _ refl z, ← jacobi_refused A L n b limit d' v' _ alike z) (record { answer = refl; values = λ f. absurd f; vectors = λ f. absurd f })

@@ -11,24 +11,24 @@ use Rattle.algebra.specs.Loop.{upto}
 use Rattle.algebra.proofs.Laws.{Laws}
 use Rattle.matrices.specs.Matrix.{Square}
 use Rattle.rotations.specs.Rotation.{work}
-use Rattle.jacobi.specs.Sweeps.{going, putOne, identity, putDiagonal, diagonal, start}
+use Rattle.jacobi.specs.Sweeps.{going, put_one, identity, put_diagonal, diagonal, start}
 use Rattle.jacobi.proofs.Scratch.{blank}
 
 module _ {R : Type 0} {A : Algebra R} {L : Layout R} (Q : Laws A L) (n : ℕ) where
-  pub identity-by : (v v₁ v₂ : List Float) → Square L.width n v → v₁ ≡ replicate (length v) float.zero → decode L v₂ ≡ upto 0 n (putOne A n) (decode L v₁) → decode L v₂ ≡ identity A n
+  pub identity_by : (v v₁ v₂ : List Float) → Square L.width n v → v₁ ≡ replicate (length v) float.zero → decode L v₂ ≡ upto 0 n (put_one A n) (decode L v₁) → decode L v₂ ≡ identity A n
   unfolding identity
-  identity-by v v₁ v₂ s e p = p ∙ ap (upto 0 n (putOne A n)) (blank Q (n * n) v v₁ s.full e)
+  identity_by v v₁ v₂ s e p = p ∙ ap (upto 0 n (put_one A n)) (blank Q (n * n) v v₁ s.full e)
 
-  pub diagonal-by : (a : List R) (d d₁ d₂ : List Float) → length d ≡ n * L.width → d₁ ≡ replicate (length d) float.zero → decode L d₂ ≡ upto 0 n (putDiagonal A n a) (decode L d₁) → decode L d₂ ≡ diagonal A n a
+  pub diagonal_by : (a : List R) (d d₁ d₂ : List Float) → length d ≡ n * L.width → d₁ ≡ replicate (length d) float.zero → decode L d₂ ≡ upto 0 n (put_diagonal A n a) (decode L d₁) → decode L d₂ ≡ diagonal A n a
   unfolding diagonal
-  diagonal-by a d d₁ d₂ s e p = p ∙ ap (upto 0 n (putDiagonal A n a)) (blank Q n d d₁ s e)
+  diagonal_by a d d₁ d₂ s e p = p ∙ ap (upto 0 n (put_diagonal A n a)) (blank Q n d d₁ s e)
 
   -- and a copy of it
-  pub diagonal-copied : (a : List R) (d d₁ d₂ b : List Float) → b ≡ d₂ → length d ≡ n * L.width → d₁ ≡ replicate (length d) float.zero → decode L d₂ ≡ upto 0 n (putDiagonal A n a) (decode L d₁)
+  pub diagonal_copied : (a : List R) (d d₁ d₂ b : List Float) → b ≡ d₂ → length d ≡ n * L.width → d₁ ≡ replicate (length d) float.zero → decode L d₂ ≡ upto 0 n (put_diagonal A n a) (decode L d₁)
       → decode L b ≡ diagonal A n a
-  diagonal-copied a d d₁ d₂ b c s e p = ap (decode L) c ∙ diagonal-by a d d₁ d₂ s e p
+  diagonal_copied a d d₁ d₂ b c s e p = ap (decode L) c ∙ diagonal_by a d d₁ d₂ s e p
 
-  pub start-by : (a w v d zw bw : List Float) → w ≡ a → decode L v ≡ identity A n → decode L d ≡ diagonal A n (decode L a) → decode L bw ≡ diagonal A n (decode L a) → decode L zw ≡ replicate n (zero_of A)
+  pub start_by : (a w v d zw bw : List Float) → w ≡ a → decode L v ≡ identity A n → decode L d ≡ diagonal A n (decode L a) → decode L bw ≡ diagonal A n (decode L a) → decode L zw ≡ replicate n (zero_of A)
       → going (work (decode L w) (decode L v) (decode L d) (decode L zw) 0) (decode L bw) 0 ≡ start A n (decode L a)
   unfolding start
-  start-by a w v d zw bw ew ev ed eb ez = λ i. going (work (decode L (ew i)) (ev i) (ed i) (ez i) 0) (eb i) 0
+  start_by a w v d zw bw ew ev ed eb ez = λ i. going (work (decode L (ew i)) (ev i) (ed i) (ez i) 0) (eb i) 0

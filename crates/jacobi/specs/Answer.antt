@@ -2,8 +2,8 @@
 use Rattle.std.specs.Prelude.{ℕ, ◌+◌, List, Float}
 use Rattle.algebra.specs.Outcome.{Outcome, value, refused}
 use Rattle.dual.specs.declared.Dual.{Dual}
-use Rattle.dual.specs.Rules.{dualRecords}
-use Rattle.rotations.specs.Buffers.{workOf}
+use Rattle.dual.specs.Rules.{dual_records}
+use Rattle.rotations.specs.Buffers.{work_of}
 use Rattle.jacobi.specs.declared.JacobiAnswer.{JacobiAnswer}
 use Rattle.jacobi.specs.declared.JacobiAnswer.TheVariants.{Done, Refused}
 use Rattle.jacobi.specs.declared.AfterSweep.{AfterSweep}
@@ -18,23 +18,23 @@ outcome (Done sweeps) = value sweeps
 outcome (Refused number) = refused number
 
 -- values and vectors in their buffers
-abbrev pub pairsOf : List Float → List Float → Pairs Dual
-pairsOf d v = pairs (dualRecords d) (dualRecords v)
+abbrev pub pairs_of : List Float → List Float → Pairs Dual
+pairs_of d v = pairs (dual_records d) (dual_records v)
 
 -- what a run gives, in its buffers
-abbrev pub eigenOf : List Float → List Float → Ended → Eigen Dual
-eigenOf values vectors e = eigen (dualRecords values) (dualRecords vectors) e.sweeps e.rotations e.stopped
+abbrev pub eigen_of : List Float → List Float → Ended → Eigen Dual
+eigen_of values vectors e = eigen (dual_records values) (dual_records vectors) e.sweeps e.rotations e.stopped
 
 -- a run in its buffers, after so many sweeps
 abbrev pub run_of : List Float → List Float → List Float → List Float → List Float → ℕ → ℕ → Run Dual
-run_of a v d zw bw rotations sweeps = going (workOf a v d zw rotations) (dualRecords bw) sweeps
+run_of a v d zw bw rotations sweeps = going (work_of a v d zw rotations) (dual_records bw) sweeps
 
 -- the run after sweep it_num, which came with so many rotations, with the buffers as they then are
-abbrev pub runAfter : AfterSweep → List Float → List Float → List Float → List Float → List Float → ℕ → ℕ → Run Dual
-runAfter Stopped a v d zw bw rotations it-num = settled (workOf a v d zw rotations) it-num
-runAfter (Swept more) a v d zw bw rotations it-num = run_of a v d zw bw more (it-num + 1)
+abbrev pub run_after : AfterSweep → List Float → List Float → List Float → List Float → List Float → ℕ → ℕ → Run Dual
+run_after Stopped a v d zw bw rotations it-num = settled (work_of a v d zw rotations) it-num
+run_after (Swept more) a v d zw bw rotations it-num = run_of a v d zw bw more (it-num + 1)
 
 -- the rotations so far, where it swept
-abbrev pub rotationsOf : AfterSweep → ℕ
-rotationsOf Stopped = 0
-rotationsOf (Swept more) = more
+abbrev pub rotations_of : AfterSweep → ℕ
+rotations_of Stopped = 0
+rotations_of (Swept more) = more

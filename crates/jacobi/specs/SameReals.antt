@@ -1,7 +1,7 @@
 -- What demand 3 says of two calls of Jacobi, over any record in flat floats. Definitions only.
 use Rattle.std.specs.Prelude.{ℕ, ◌+◌, ◌*◌, ◌≤◌, ◌<◌, ◌≡◌, List, length, get_or, Float}
 use Rattle.real.specs.Operations as float
-use Rattle.algebra.specs.Flat.{realParts}
+use Rattle.algebra.specs.Flat.{real_parts}
 use Rattle.algebra.specs.Outcome.{Outcome, value, refused}
 use Rattle.jacobi.specs.Entry.{JacobiLeft}
 
@@ -18,5 +18,5 @@ Finished (refused number) = ⊥
 -- what two calls leave: the same answer, and of what they write the same real parts
 pub record SameJacobi (w : ℕ) (x y : JacobiLeft) : Type 0 where
   pub answer : x.answer ≡ y.answer
-  pub values : Finished x.answer → realParts w x.values ≡ realParts w y.values
-  pub vectors : Finished x.answer → realParts w x.vectors ≡ realParts w y.vectors
+  pub values : Finished x.answer → real_parts w x.values ≡ real_parts w y.values
+  pub vectors : Finished x.answer → real_parts w x.vectors ≡ real_parts w y.vectors

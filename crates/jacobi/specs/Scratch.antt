@@ -2,5 +2,5 @@
 use Rattle.std.specs.Prelude.{ℕ}
 
 -- up to here n has a scratch of its own, which is cleared in no time
-abbrev pub smallN : ℕ
-smallN = 8
+abbrev pub small_n : ℕ
+small_n = 8

@@ -5,7 +5,7 @@ use Rattle.algebra.specs.Algebra.{Algebra, zero_of}
 use Rattle.algebra.specs.Loop.{upto}
 use Rattle.matrices.specs.Matrix.{exchange}
 use Rattle.rotations.specs.Rotation.{item}
-use Rattle.jacobi.specs.Sweeps.{Run, going, settled, sweepsOf}
+use Rattle.jacobi.specs.Sweeps.{Run, going, settled, sweeps_of}
 
 -- eigenvalues d and vectors v, a column each
 pub record Pairs (R : Type 0) : Type 0 where
@@ -41,20 +41,20 @@ module _ {R : Type 0} (A : Algebra R) (n : ℕ) where
   least d k = upto (k + 1) n (smaller d) k
 
   -- v.swap((l, m), (l, k))
-  unfoldable pub exchangeInRow : ℕ → ℕ → ℕ → List R → List R
-  exchangeInRow m k l v = exchange (zero_of A) (l * n + m) (l * n + k) v
+  unfoldable pub exchange_in_row : ℕ → ℕ → ℕ → List R → List R
+  exchange_in_row m k l v = exchange (zero_of A) (l * n + m) (l * n + k) v
 
   -- for l in 0..n
-  unfoldable pub exchangeColumns : ℕ → ℕ → List R → List R
-  exchangeColumns m k v = upto 0 n (exchangeInRow m k) v
+  unfoldable pub exchange_columns : ℕ → ℕ → List R → List R
+  exchange_columns m k v = upto 0 n (exchange_in_row m k) v
 
   -- the values m and k with their columns exchanged, if m is not k
-  unfoldable pub bringSmallest : ℕ → ℕ → Pairs R → Pairs R
-  bringSmallest m k e = cond (eqb m k) e (pairs (exchange (zero_of A) m k e.d) (exchangeColumns m k e.v))
+  unfoldable pub bring_smallest : ℕ → ℕ → Pairs R → Pairs R
+  bring_smallest m k e = cond (eqb m k) e (pairs (exchange (zero_of A) m k e.d) (exchange_columns m k e.v))
 
   -- the least from k on brought to k
   unfoldable pub select : ℕ → Pairs R → Pairs R
-  select k e = bringSmallest (least e.d k) k e
+  select k e = bring_smallest (least e.d k) k e
 
   -- for k in 0..n - 1
   unfoldable pub sort : Pairs R → Pairs R
@@ -65,5 +65,5 @@ module _ {R : Type 0} (A : Algebra R) (n : ℕ) where
   ordered e = let p = sort (pairs e.values e.vectors) in eigen p.d p.v e.sweeps e.rotations e.stopped
 
   -- jacobi_eigenvalue(a, limit)
-  unfoldable pub jacobiOf : ℕ → List R → Eigen R
-  jacobiOf limit a = ordered (ended (sweepsOf A n limit a))
+  unfoldable pub jacobi_of : ℕ → List R → Eigen R
+  jacobi_of limit a = ordered (ended (sweeps_of A n limit a))

@@ -4,7 +4,7 @@ use Rattle.std.specs.Float.{binary64}
 use Rattle.std.specs.Float.Ieee.{eq, of_int}
 use Rattle.real.specs.Operations as float
 use Rattle.real.specs.Operations.{◌⊕◌, ◌⊗◌, ◌⊘◌}
-use Rattle.real.specs.Root.{sqrtOf}
+use Rattle.real.specs.Root.{sqrt_of}
 use Rattle.algebra.specs.Algebra.{Algebra, zero_of, one_of}
 use Rattle.algebra.specs.Loop.{upto}
 use Rattle.matrices.specs.Matrix.{cell, store}
@@ -17,20 +17,20 @@ pub data Run (R : Type 0) : Type 0 where
 
 module _ {R : Type 0} (A : Algebra R) (n : ℕ) where
   -- thresh += a[(i, j)].re().powi(2), one multiplication
-  unfoldable pub addSquare : List R → ℕ → ℕ → Float → Float
-  addSquare a j i thresh = let x = A.re (cell A n a i j) in thresh ⊕ x ⊗ x
+  unfoldable pub add_square : List R → ℕ → ℕ → Float → Float
+  add_square a j i thresh = let x = A.re (cell A n a i j) in thresh ⊕ x ⊗ x
 
   -- for i in 0..j
-  unfoldable pub columnSquares : List R → ℕ → Float → Float
-  columnSquares a j thresh = upto 0 j (addSquare a j) thresh
+  unfoldable pub column_squares : List R → ℕ → Float → Float
+  column_squares a j thresh = upto 0 j (add_square a j) thresh
 
   -- for j in 0..n
-  unfoldable pub sumOfSquares : List R → Float
-  sumOfSquares a = upto 0 n (columnSquares a) float.zero
+  unfoldable pub sum_of_squares : List R → Float
+  sum_of_squares a = upto 0 n (column_squares a) float.zero
 
   -- the root over n
-  unfoldable pub thresholdOf : List R → Float
-  thresholdOf a = sqrtOf (sumOfSquares a) ⊘ of_int binary64 (pos n)
+  unfoldable pub threshold_of : List R → Float
+  threshold_of a = sqrt_of (sum_of_squares a) ⊘ of_int binary64 (pos n)
 
   -- for q in p + 1..n
   unfoldable pub row : Float → ℕ → ℕ → Work R → Work R
@@ -41,46 +41,46 @@ module _ {R : Type 0} (A : Algebra R) (n : ℕ) where
   sweep thresh it-num w = upto 0 n (row thresh it-num) w
 
   -- bw[i] += zw[i]
-  unfoldable pub addItem : List R → ℕ → List R → List R
-  addItem zw i bw = set bw i (A.add (item A bw i) (item A zw i))
+  unfoldable pub add_item : List R → ℕ → List R → List R
+  add_item zw i bw = set bw i (A.add (item A bw i) (item A zw i))
 
   -- bw += zw
-  unfoldable pub addAll : List R → List R → List R
-  addAll zw bw = upto 0 n (addItem zw) bw
+  unfoldable pub add_all : List R → List R → List R
+  add_all zw bw = upto 0 n (add_item zw) bw
 
   -- a sweep's end: bw += zw; d = bw; zw = 0; one sweep more
-  unfoldable pub closeSweep : List R → ℕ → Work R → Run R
-  closeSweep bw sweeps w =
-      let sums = addAll w.zw bw in
+  unfoldable pub close_sweep : List R → ℕ → Work R → Run R
+  close_sweep bw sweeps w =
+      let sums = add_all w.zw bw in
       going (work w.a w.v sums (replicate n (zero_of A)) w.rotations) sums (sweeps + 1)
 
   -- sweep it_num: a zero threshold ends the run
   unfoldable pub step : ℕ → Run R → Run R
   step it-num (settled w sweeps) = settled w sweeps
   step it-num (going w bw sweeps) =
-      let thresh = thresholdOf w.a in
-      cond (eq thresh float.zero) (settled w sweeps) (closeSweep bw sweeps (sweep thresh it-num w))
+      let thresh = threshold_of w.a in
+      cond (eq thresh float.zero) (settled w sweeps) (close_sweep bw sweeps (sweep thresh it-num w))
 
   -- v[(i, i)] = 1
-  unfoldable pub putOne : ℕ → List R → List R
-  putOne i v = store A n v i i (one_of A)
+  unfoldable pub put_one : ℕ → List R → List R
+  put_one i v = store A n v i i (one_of A)
 
   -- the identity matrix
   unfoldable pub identity : List R
-  identity = upto 0 n putOne (replicate (n * n) (zero_of A))
+  identity = upto 0 n put_one (replicate (n * n) (zero_of A))
 
   -- d[i] = a[(i, i)]
-  unfoldable pub putDiagonal : List R → ℕ → List R → List R
-  putDiagonal a i d = set d i (cell A n a i i)
+  unfoldable pub put_diagonal : List R → ℕ → List R → List R
+  put_diagonal a i d = set d i (cell A n a i i)
 
   -- the diagonal of a
   unfoldable pub diagonal : List R → List R
-  diagonal a = upto 0 n (putDiagonal a) (replicate n (zero_of A))
+  diagonal a = upto 0 n (put_diagonal a) (replicate n (zero_of A))
 
   -- v = identity, d = diagonal, bw = d, zw = 0
   unfoldable pub start : List R → Run R
   start a = going (work a identity (diagonal a) (replicate n (zero_of A)) 0) (diagonal a) 0
 
   -- for it_num in 0..limit
-  unfoldable pub sweepsOf : ℕ → List R → Run R
-  sweepsOf limit a = upto 0 limit step (start a)
+  unfoldable pub sweeps_of : ℕ → List R → Run R
+  sweeps_of limit a = upto 0 limit step (start a)

@@ -6,12 +6,12 @@ mod sweeps;
 ghost use Rattle.std.specs.Prelude.{◌≡◌, ◌*◌, ◌<◌, ◌≤◌, length};
 ghost use Rattle.refusals.specs.Largest as largest;
 ghost use Rattle.algebra.specs.Outcome.{number_of};
-ghost use Rattle.dual.specs.Rules.{dualAlgebra, dualLayout, dualRecords};
+ghost use Rattle.dual.specs.Rules.{dual_algebra, dual_layout, dual_records};
 ghost use Rattle.matrices.specs.Matrix.{Square};
-ghost use Rattle.jacobi.specs.Sort.{jacobiOf};
-ghost use Rattle.jacobi.specs.Entry.{jacobiRefusal, jacobiAnswered, jacobiLeft};
-ghost use Rattle.jacobi.specs.Scratch.{smallN};
-ghost use Rattle.jacobi.specs.Answer.{outcome, eigenOf};
+ghost use Rattle.jacobi.specs.Sort.{jacobi_of};
+ghost use Rattle.jacobi.specs.Entry.{jacobi_refusal, jacobi_answered, jacobi_left};
+ghost use Rattle.jacobi.specs.Scratch.{small_n};
+ghost use Rattle.jacobi.specs.Answer.{outcome, eigen_of};
 
 // The sweeps that did not stop at the threshold, or the number that the call is refused by.
 #[derive(Drop)]
@@ -61,7 +61,7 @@ pub(crate) enum AfterSweep {
 
 // The number of the first refusal that applies, 0 where none does.
 fn refusal(n: usize, a: usize, limit: usize, values: usize, vectors: usize) -> u32
-    ensures { result ≡ jacobiRefusal 2 n a limit values vectors }
+    ensures { result ≡ jacobi_refusal 2 n a limit values vectors }
 {
     if refusals::LARGEST_N < n {
         return refusals::TOO_LARGE;
@@ -101,7 +101,7 @@ fn run(
     requires bw_len { (length bw.old ≡ n * 2) × (length zw.old ≡ n * 2) }
     requires values_len { length values.old ≡ n * 2 }
     requires n_nonzero { (0 < n) × (limit ≤ largest.limit) }
-    ensures { eigenOf values.new vectors.new result ≡ jacobiOf dualAlgebra n limit (dualRecords a.now) }
+    ensures { eigen_of values.new vectors.new result ≡ jacobi_of dual_algebra n limit (dual_records a.now) }
 {
     prepare::prepare(n, a, w, bw, zw, values, vectors);
     let e = sweeps::sweeps(n, w, vectors, values, zw, bw, limit);
@@ -114,9 +114,9 @@ fn run_small(n: usize, a: &[f64], limit: usize, values: &mut [f64], vectors: &mu
     requires square { Square 2 n a.now }
     requires square_2 { Square 2 n vectors.old }
     requires values_len { length values.old ≡ n * 2 }
-    requires n_nonzero { (0 < n) × (n ≤ smallN) }
+    requires n_nonzero { (0 < n) × (n ≤ small_n) }
     requires limit_le_limit { limit ≤ largest.limit }
-    ensures { eigenOf values.new vectors.new result ≡ jacobiOf dualAlgebra n limit (dualRecords a.now) }
+    ensures { eigen_of values.new vectors.new result ≡ jacobi_of dual_algebra n limit (dual_records a.now) }
 {
     let full = n * n * 2;
     let row = n * 2;
@@ -142,7 +142,7 @@ fn run_large(n: usize, a: &[f64], limit: usize, values: &mut [f64], vectors: &mu
     requires values_len { length values.old ≡ n * 2 }
     requires n_nonzero { (0 < n) × (n ≤ largest.n) }
     requires limit_le_limit { limit ≤ largest.limit }
-    ensures { eigenOf values.new vectors.new result ≡ jacobiOf dualAlgebra n limit (dualRecords a.now) }
+    ensures { eigen_of values.new vectors.new result ≡ jacobi_of dual_algebra n limit (dual_records a.now) }
 {
     let full = n * n * 2;
     let row = n * 2;
@@ -170,7 +170,7 @@ pub fn jacobi_eigenvalue(
     values: &mut [f64],
     vectors: &mut [f64],
 ) -> JacobiAnswer
-    ensures { jacobiAnswered (outcome result) values.new vectors.new ≡ jacobiLeft dualAlgebra dualLayout n a.now limit values.old vectors.old }
+    ensures { jacobi_answered (outcome result) values.new vectors.new ≡ jacobi_left dual_algebra dual_layout n a.now limit values.old vectors.old }
 {
     let number = refusal(n, a.len(), limit, values.len(), vectors.len());
     if number != 0 {

@@ -2,11 +2,11 @@
 ghost use Rattle.std.specs.Prelude.{◌≡◌, ◌*◌, length, replicate};
 ghost use Rattle.algebra.specs.Algebra.{zero_of};
 ghost use Rattle.algebra.specs.Loop.{upto};
-ghost use Rattle.dual.specs.Rules.{dualAlgebra, dualRecords};
+ghost use Rattle.dual.specs.Rules.{dual_algebra, dual_records};
 ghost use Rattle.matrices.specs.Matrix.{Square};
 ghost use Rattle.rotations.specs.Buffers.{Sized};
 ghost use Rattle.jacobi.specs.Sweeps as rule;
-ghost use Rattle.jacobi.specs.Sweeps.{diagonal, start, putOne, putDiagonal};
+ghost use Rattle.jacobi.specs.Sweeps.{diagonal, start, put_one, put_diagonal};
 ghost use Rattle.jacobi.specs.Answer.{run_of};
 
 use dual::{Dual, write};
@@ -16,7 +16,7 @@ use rotations::cells::{get, put};
 fn put_ones(n: usize, v: &mut [f64])
     requires { Square 2 n v.old }
     ensures square { Square 2 n v.new }
-    ensures v_after { dualRecords v.new ≡ upto 0 n (putOne dualAlgebra n) (dualRecords v.old) }
+    ensures v_after { dual_records v.new ≡ upto 0 n (put_one dual_algebra n) (dual_records v.old) }
 {
     for i in 0..n {
         put(n, v, i, i, Dual::ONE);
@@ -27,7 +27,7 @@ fn put_ones(n: usize, v: &mut [f64])
 fn identity(n: usize, v: &mut [f64])
     requires { Square 2 n v.old }
     ensures square { Square 2 n v.new }
-    ensures v_after { dualRecords v.new ≡ rule.identity dualAlgebra n }
+    ensures v_after { dual_records v.new ≡ rule.identity dual_algebra n }
 {
     floats::clear(v);
     put_ones(n, v);
@@ -37,7 +37,7 @@ fn identity(n: usize, v: &mut [f64])
 fn put_diagonal(n: usize, a: &[f64], d: &mut [f64])
     requires square { Square 2 n a.now }
     requires d_len { length d.old ≡ n * 2 }
-    ensures { dualRecords d.new ≡ upto 0 n (putDiagonal dualAlgebra n (dualRecords a.now)) (dualRecords d.old) }
+    ensures { dual_records d.new ≡ upto 0 n (put_diagonal dual_algebra n (dual_records a.now)) (dual_records d.old) }
 {
     for i in 0..n {
         write(d, i, get(n, a, i, i));
@@ -49,9 +49,9 @@ fn start_sums(n: usize, a: &[f64], d: &mut [f64], bw: &mut [f64], zw: &mut [f64]
     requires square { Square 2 n a.now }
     requires d_len { length d.old ≡ n * 2 }
     requires bw_len { (length bw.old ≡ n * 2) × (length zw.old ≡ n * 2) }
-    ensures d_after { dualRecords d.new ≡ diagonal dualAlgebra n (dualRecords a.now) }
-    ensures bw_after { dualRecords bw.new ≡ diagonal dualAlgebra n (dualRecords a.now) }
-    ensures zw_after { dualRecords zw.new ≡ replicate n (zero_of dualAlgebra) }
+    ensures d_after { dual_records d.new ≡ diagonal dual_algebra n (dual_records a.now) }
+    ensures bw_after { dual_records bw.new ≡ diagonal dual_algebra n (dual_records a.now) }
+    ensures zw_after { dual_records zw.new ≡ replicate n (zero_of dual_algebra) }
 {
     floats::clear(d);
     put_diagonal(n, a, d);
@@ -73,7 +73,7 @@ pub(crate) fn prepare(
     requires sized { Sized n w.old v.old d.old zw.old }
     requires bw_len { length bw.old ≡ n * 2 }
     ensures sized_2 { Sized n w.new v.new d.new zw.new }
-    ensures bw_after { run_of w.new v.new d.new zw.new bw.new 0 0 ≡ start dualAlgebra n (dualRecords a.now) }
+    ensures bw_after { run_of w.new v.new d.new zw.new bw.new 0 0 ≡ start dual_algebra n (dual_records a.now) }
 {
     floats::copy(a, w);
     identity(n, v);

@@ -1,9 +1,9 @@
 // The values in order of their real parts, their vectors' columns with them.
 ghost use Rattle.std.specs.Prelude.{◌≡◌, ◌+◌, ◌*◌, ◌<◌, length};
-ghost use Rattle.dual.specs.Rules.{dualAlgebra, dualRecords};
+ghost use Rattle.dual.specs.Rules.{dual_algebra, dual_records};
 ghost use Rattle.matrices.specs.Matrix.{Square};
 ghost use Rattle.jacobi.specs.Sort as rule;
-ghost use Rattle.jacobi.specs.Answer.{pairsOf};
+ghost use Rattle.jacobi.specs.Answer.{pairs_of};
 
 use dual::read;
 use rotations::cells::exchange;
@@ -12,7 +12,7 @@ use rotations::cells::exchange;
 fn smaller(n: usize, d: &[f64], l: usize, m: usize) -> usize
     requires d_len { length d.now ≡ n * 2 }
     requires l_lt_n { (l < n) × (m < n) }
-    ensures value { result ≡ rule.smaller dualAlgebra n (dualRecords d.now) l m }
+    ensures value { result ≡ rule.smaller dual_algebra n (dual_records d.now) l m }
     ensures upper_bound { result < n }
 {
     let x = read(d, l);
@@ -27,7 +27,7 @@ fn smaller(n: usize, d: &[f64], l: usize, m: usize) -> usize
 fn least(n: usize, d: &[f64], k: usize) -> usize
     requires d_len { length d.now ≡ n * 2 }
     requires k_lt_n { k < n }
-    ensures value { result ≡ rule.least dualAlgebra n (dualRecords d.now) k }
+    ensures value { result ≡ rule.least dual_algebra n (dual_records d.now) k }
     ensures upper_bound { result < n }
 {
     let mut m = k;
@@ -42,7 +42,7 @@ fn exchange_columns(n: usize, v: &mut [f64], m: usize, k: usize)
     requires square { Square 2 n v.old }
     requires m_lt_n { (m < n) × (k < n) }
     ensures square_2 { Square 2 n v.new }
-    ensures v_after { dualRecords v.new ≡ rule.exchangeColumns dualAlgebra n m k (dualRecords v.old) }
+    ensures v_after { dual_records v.new ≡ rule.exchange_columns dual_algebra n m k (dual_records v.old) }
 {
     for l in 0..n {
         exchange(v, l * n + m, l * n + k);
@@ -54,7 +54,7 @@ fn select(n: usize, d: &mut [f64], v: &mut [f64], k: usize)
     requires d_len { (length d.old ≡ n * 2) × Square 2 n v.old }
     requires k_lt_n { k < n }
     ensures square { Square 2 n v.new }
-    ensures v_after { pairsOf d.new v.new ≡ rule.select dualAlgebra n k (pairsOf d.old v.old) }
+    ensures v_after { pairs_of d.new v.new ≡ rule.select dual_algebra n k (pairs_of d.old v.old) }
 {
     let m = least(n, d, k);
     if m == k {
@@ -68,7 +68,7 @@ fn select(n: usize, d: &mut [f64], v: &mut [f64], k: usize)
 pub(crate) fn sort(n: usize, d: &mut [f64], v: &mut [f64])
     requires d_len { (length d.old ≡ n * 2) × Square 2 n v.old }
     requires n_nonzero { 0 < n }
-    ensures { pairsOf d.new v.new ≡ rule.sort dualAlgebra n (pairsOf d.old v.old) }
+    ensures { pairs_of d.new v.new ≡ rule.sort dual_algebra n (pairs_of d.old v.old) }
 {
     for k in 0..n - 1 {
         select(n, d, v, k);

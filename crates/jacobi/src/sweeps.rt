@@ -3,12 +3,12 @@ ghost use Rattle.std.specs.Prelude.{◌≡◌, true, false, ◌+◌, ◌*◌, �
 ghost use Rattle.refusals.specs.Largest as largest;
 ghost use Rattle.algebra.specs.Algebra.{zero_of};
 ghost use Rattle.algebra.specs.Loop.{upto};
-ghost use Rattle.dual.specs.Rules.{dualAlgebra, dualRecords};
+ghost use Rattle.dual.specs.Rules.{dual_algebra, dual_records};
 ghost use Rattle.matrices.specs.Matrix.{Square};
-ghost use Rattle.rotations.specs.Buffers.{Sized, manyRotations, workOf};
+ghost use Rattle.rotations.specs.Buffers.{Sized, many_rotations, work_of};
 ghost use Rattle.jacobi.specs.Sweeps as rule;
 ghost use Rattle.jacobi.specs.Sort.{ended};
-ghost use Rattle.jacobi.specs.Answer.{eigenOf, run_of, runAfter, rotationsOf};
+ghost use Rattle.jacobi.specs.Answer.{eigen_of, run_of, run_after, rotations_of};
 
 use super::{AfterSweep, Ended};
 use dual::{read, write};
@@ -19,7 +19,7 @@ use rotations::pair;
 fn column_squares(n: usize, a: &[f64], j: usize, thresh: f64) -> f64
     requires square { Square 2 n a.now }
     requires j_lt_n { j < n }
-    ensures { result ≡ rule.columnSquares dualAlgebra n (dualRecords a.now) j thresh }
+    ensures { result ≡ rule.column_squares dual_algebra n (dual_records a.now) j thresh }
 {
     let mut sum = thresh;
     for i in 0..j {
@@ -32,7 +32,7 @@ fn column_squares(n: usize, a: &[f64], j: usize, thresh: f64) -> f64
 // The squares above the diagonal, column by column.
 fn sum_of_squares(n: usize, a: &[f64]) -> f64
     requires { Square 2 n a.now }
-    ensures { result ≡ rule.sumOfSquares dualAlgebra n (dualRecords a.now) }
+    ensures { result ≡ rule.sum_of_squares dual_algebra n (dual_records a.now) }
 {
     let mut sum = 0.0;
     for j in 0..n {
@@ -44,7 +44,7 @@ fn sum_of_squares(n: usize, a: &[f64]) -> f64
 // The root of the sum of squares over n.
 fn threshold(n: usize, a: &[f64]) -> f64
     requires { Square 2 n a.now }
-    ensures { result ≡ rule.thresholdOf dualAlgebra n (dualRecords a.now) }
+    ensures { result ≡ rule.threshold_of dual_algebra n (dual_records a.now) }
 {
     real::sqrt(sum_of_squares(n, a)) / n as f64
 }
@@ -63,10 +63,10 @@ fn row(
 ) -> usize
     requires sized { Sized n a.old v.old d.old zw.old }
     requires p_lt_n { p < n }
-    requires n_bound { rotations + largest.n < manyRotations }
+    requires n_bound { rotations + largest.n < many_rotations }
     ensures sized_2 { Sized n a.new v.new d.new zw.new }
-    ensures result_after { workOf a.new v.new d.new zw.new result
-        ≡ rule.row dualAlgebra n thresh it_num p (workOf a.old v.old d.old zw.old rotations) }
+    ensures result_after { work_of a.new v.new d.new zw.new result
+        ≡ rule.row dual_algebra n thresh it_num p (work_of a.old v.old d.old zw.old rotations) }
     ensures upper_bound { result ≤ rotations + largest.n }
 {
     let mut count = rotations;
@@ -88,10 +88,10 @@ fn sweep(
     rotations: usize,
 ) -> usize
     requires sized { Sized n a.old v.old d.old zw.old }
-    requires n_bound { rotations + largest.n * largest.n < manyRotations }
+    requires n_bound { rotations + largest.n * largest.n < many_rotations }
     ensures sized_2 { Sized n a.new v.new d.new zw.new }
-    ensures result_after { workOf a.new v.new d.new zw.new result
-        ≡ rule.sweep dualAlgebra n thresh it_num (workOf a.old v.old d.old zw.old rotations) }
+    ensures result_after { work_of a.new v.new d.new zw.new result
+        ≡ rule.sweep dual_algebra n thresh it_num (work_of a.old v.old d.old zw.old rotations) }
     ensures upper_bound { result ≤ rotations + largest.n * largest.n }
 {
     let mut count = rotations;
@@ -104,7 +104,7 @@ fn sweep(
 // bw += zw
 fn add_all(n: usize, zw: &[f64], bw: &mut [f64])
     requires { (length zw.now ≡ n * 2) × (length bw.old ≡ n * 2) }
-    ensures { dualRecords bw.new ≡ rule.addAll dualAlgebra n (dualRecords zw.now) (dualRecords bw.old) }
+    ensures { dual_records bw.new ≡ rule.add_all dual_algebra n (dual_records zw.now) (dual_records bw.old) }
 {
     for i in 0..n {
         let x = read(bw, i);
@@ -117,9 +117,9 @@ fn add_all(n: usize, zw: &[f64], bw: &mut [f64])
 fn close_sweep(n: usize, d: &mut [f64], zw: &mut [f64], bw: &mut [f64])
     requires zw_len { (length zw.old ≡ n * 2) × (length bw.old ≡ n * 2) }
     requires d_len { length d.old ≡ n * 2 }
-    ensures bw_after { dualRecords bw.new ≡ rule.addAll dualAlgebra n (dualRecords zw.old) (dualRecords bw.old) }
-    ensures d_after { dualRecords d.new ≡ rule.addAll dualAlgebra n (dualRecords zw.old) (dualRecords bw.old) }
-    ensures zw_after { dualRecords zw.new ≡ replicate n (zero_of dualAlgebra) }
+    ensures bw_after { dual_records bw.new ≡ rule.add_all dual_algebra n (dual_records zw.old) (dual_records bw.old) }
+    ensures d_after { dual_records d.new ≡ rule.add_all dual_algebra n (dual_records zw.old) (dual_records bw.old) }
+    ensures zw_after { dual_records zw.new ≡ replicate n (zero_of dual_algebra) }
 {
     add_all(n, zw, bw);
     floats::copy(bw, d);
@@ -139,11 +139,11 @@ fn step(
 ) -> AfterSweep
     requires sized { Sized n a.old v.old d.old zw.old }
     requires bw_len { length bw.old ≡ n * 2 }
-    requires n_bound { rotations + largest.n * largest.n < manyRotations }
+    requires n_bound { rotations + largest.n * largest.n < many_rotations }
     ensures sized_2 { Sized n a.new v.new d.new zw.new }
-    ensures it_num_after { runAfter result a.new v.new d.new zw.new bw.new rotations it_num
-        ≡ rule.step dualAlgebra n it_num (run_of a.old v.old d.old zw.old bw.old rotations it_num) }
-    ensures result_bound { rotationsOf result ≤ rotations + largest.n * largest.n }
+    ensures it_num_after { run_after result a.new v.new d.new zw.new bw.new rotations it_num
+        ≡ rule.step dual_algebra n it_num (run_of a.old v.old d.old zw.old bw.old rotations it_num) }
+    ensures result_bound { rotations_of result ≤ rotations + largest.n * largest.n }
 {
     let thresh = threshold(n, a);
     if thresh == 0.0 {
@@ -168,8 +168,8 @@ pub(crate) fn sweeps(
     requires bw_len { length bw.old ≡ n * 2 }
     requires limit_le_limit { limit ≤ largest.limit }
     ensures sized_2 { Sized n a.new v.new d.new zw.new }
-    ensures result_after { eigenOf d.new v.new result
-        ≡ ended (upto 0 limit (rule.step dualAlgebra n) (run_of a.old v.old d.old zw.old bw.old 0 0)) }
+    ensures result_after { eigen_of d.new v.new result
+        ≡ ended (upto 0 limit (rule.step dual_algebra n) (run_of a.old v.old d.old zw.old bw.old 0 0)) }
 {
     let mut rotations = 0;
     for it_num in 0..limit {

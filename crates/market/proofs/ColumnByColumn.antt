@@ -11,40 +11,40 @@ use lib.Seq.{drop-cons, get_or-append-add}
 use lib.Ieee.{Float}
 use borrow.Author.Tests.{le-leb}
 use Rattle.real.specs.Operations as float
-use Rattle.market.specs.Format.{count_of, columnFrom, firstRow, columnsFrom}
+use Rattle.market.specs.Format.{count_of, column_from, first_row, columns_from}
 use Rattle.market.specs.Entries.{place_of}
 
 -- ---- half of c * (c + 1)
-triangle-next : (c : ℕ) → (c + 1) * (c + 1 + 1) / 2 ≡ c * (c + 1) / 2 + (c + 1)
-triangle-next c = let p : (c + 1) * (c + 1 + 1) ≡ c * (c + 1) + 2 * (c + 1) = omega arith in omega arith
+triangle_next : (c : ℕ) → (c + 1) * (c + 1 + 1) / 2 ≡ c * (c + 1) / 2 + (c + 1)
+triangle_next c = let p : (c + 1) * (c + 1 + 1) ≡ c * (c + 1) + 2 * (c + 1) = omega arith in omega arith
 
-triangle-twice : (c : ℕ) → c * (c + 1) / 2 * 2 ≡ c * (c + 1)
-triangle-twice zero = omega arith
-triangle-twice (suc c) = let before = triangle-twice c in let p : suc c * (suc c + 1) ≡ c * (c + 1) + 2 * (c + 1) = omega arith in omega arith
+triangle_twice : (c : ℕ) → c * (c + 1) / 2 * 2 ≡ c * (c + 1)
+triangle_twice zero = omega arith
+triangle_twice (suc c) = let before = triangle_twice c in let p : suc c * (suc c + 1) ≡ c * (c + 1) + 2 * (c + 1) = omega arith in omega arith
 
-triangle-below : (n c : ℕ) → c ≤ n → c * (c + 1) / 2 ≤ c * n + c
-triangle-below n c h = let p : c * (c + 1) ≤ c * (n + 1) = mul-le-mul_left c (omega arith) in let q : c * (n + 1) ≡ c * n + c = omega arith in omega arith
+triangle_below : (n c : ℕ) → c ≤ n → c * (c + 1) / 2 ≤ c * n + c
+triangle_below n c h = let p : c * (c + 1) ≤ c * (n + 1) = mul-le-mul_left c (omega arith) in let q : c * (n + 1) ≡ c * n + c = omega arith in omega arith
 
 -- ---- where a column begins
 abbrev pub start : Bool → ℕ → ℕ → ℕ
-start symmetric n c = place_of symmetric n (firstRow symmetric c) c
+start symmetric n c = place_of symmetric n (first_row symmetric c) c
 
 module _ (n c : ℕ) where
   -- entries of a column follow each other
-  pub place-follows : (symmetric : Bool) (r : ℕ) → c ≤ n → firstRow symmetric c ≤ r → place_of symmetric n r c ≡ start symmetric n c + (r - firstRow symmetric c)
+  pub place_follows : (symmetric : Bool) (r : ℕ) → c ≤ n → first_row symmetric c ≤ r → place_of symmetric n r c ≡ start symmetric n c + (r - first_row symmetric c)
   unfolding place_of
-  place-follows true r few below = let t = triangle-below n c few in rw (le-leb c r below, le-leb c c (omega arith)) (omega arith)
-  place-follows false r few below = omega arith
+  place_follows true r few below = let t = triangle_below n c few in rw (le-leb c r below, le-leb c c (omega arith)) (omega arith)
+  place_follows false r few below = omega arith
 
   -- and columns too
-  pub start-next : (symmetric : Bool) → c < n → start symmetric n (c + 1) ≡ start symmetric n c + (n - firstRow symmetric c)
+  pub start_next : (symmetric : Bool) → c < n → start symmetric n (c + 1) ≡ start symmetric n c + (n - first_row symmetric c)
   unfolding place_of
-  start-next true inside =
-      let t = triangle-below n c (omega arith) in
-      let u = triangle-next c in
+  start_next true inside =
+      let t = triangle_below n c (omega arith) in
+      let u = triangle_next c in
       let p : (c + 1) * n ≡ c * n + n = omega arith in
       rw (le-leb c c (omega arith), le-leb (c + 1) (c + 1) (omega arith)) (omega arith)
-  start-next false inside = let p : (c + 1) * n ≡ c * n + n = omega arith in omega arith
+  start_next false inside = let p : (c + 1) * n ≡ c * n + n = omega arith in omega arith
 
 -- the first begins at 0, the one after the last where the entries end
 pub start_first : (symmetric : Bool) (n : ℕ) → start symmetric n 0 ≡ 0
@@ -52,104 +52,104 @@ unfolding place_of
 start_first true n = omega arith
 start_first false n = omega arith
 
-pub start-end : (symmetric : Bool) (n : ℕ) → start symmetric n n ≡ count_of symmetric n
+pub start_end : (symmetric : Bool) (n : ℕ) → start symmetric n n ≡ count_of symmetric n
 unfolding place_of count_of
-start-end true n = let t = triangle-twice n in let p : n * (n + 1) ≡ n * n + n = omega arith in rw (le-leb n n (omega arith)) (omega arith)
-start-end false n = omega arith
+start_end true n = let t = triangle_twice n in let p : n * (n + 1) ≡ n * n + n = omega arith in rw (le-leb n n (omega arith)) (omega arith)
+start_end false n = omega arith
 
 -- a later column begins later
-pub start-later : (symmetric : Bool) (n d c m : ℕ) → c + d ≡ m → m ≤ n → start symmetric n c ≤ start symmetric n m
-start-later symmetric n zero c m h inside = let e : c ≡ m = omega arith in let k = ap (start symmetric n) e in omega arith
-start-later symmetric n (suc d) c m h inside = let k = start-next n c symmetric (omega arith) in let later = start-later symmetric n d (c + 1) m (omega arith) inside in omega arith
+pub start_later : (symmetric : Bool) (n d c m : ℕ) → c + d ≡ m → m ≤ n → start symmetric n c ≤ start symmetric n m
+start_later symmetric n zero c m h inside = let e : c ≡ m = omega arith in let k = ap (start symmetric n) e in omega arith
+start_later symmetric n (suc d) c m h inside = let k = start_next n c symmetric (omega arith) in let later = start_later symmetric n d (c + 1) m (omega arith) inside in omega arith
 
 -- ---- the entries of a matrix, listed
 module _ (symmetric : Bool) (n : ℕ) (at : ℕ → ℕ → Float) where
   -- how many there are
-  column-length : (d r c : ℕ) → length (columnFrom at c r d) ≡ d
-  unfolding columnFrom
-  column-length zero r c = refl
-  column-length (suc d) r c = ap suc (column-length d (r + 1) c)
+  column_length : (d r c : ℕ) → length (column_from at c r d) ≡ d
+  unfolding column_from
+  column_length zero r c = refl
+  column_length (suc d) r c = ap suc (column_length d (r + 1) c)
 
   -- entry number k of a column
-  column-at : (d r c k : ℕ) → k < d → get_or (columnFrom at c r d) k float.zero ≡ at (r + k) c
-  unfolding columnFrom
-  column-at (suc d) r c zero h = ap (λ (i : ℕ). at i c) (let z : r ≡ r + 0 = omega arith in z)
-  column-at (suc d) r c (suc k) h = column-at d (r + 1) c k (omega arith) ∙ ap (λ (i : ℕ). at i c) (let z : r + 1 + k ≡ r + suc k = omega arith in z)
-  column-at zero r c k h = absurd (omega arith)
+  column_at : (d r c k : ℕ) → k < d → get_or (column_from at c r d) k float.zero ≡ at (r + k) c
+  unfolding column_from
+  column_at (suc d) r c zero h = ap (λ (i : ℕ). at i c) (let z : r ≡ r + 0 = omega arith in z)
+  column_at (suc d) r c (suc k) h = column_at d (r + 1) c k (omega arith) ∙ ap (λ (i : ℕ). at i c) (let z : r + 1 + k ≡ r + suc k = omega arith in z)
+  column_at zero r c k h = absurd (omega arith)
 
-  in-column : (c r k : ℕ) (rest : List Float) → firstRow symmetric c ≤ r → r < n → k ≡ r - firstRow symmetric c → get_or (columnFrom at c (firstRow symmetric c) (n - firstRow symmetric c) ++ rest) k float.zero ≡ at r c
-  in-column c r k rest below row place =
-      let first = firstRow symmetric c in
-      let long = column-length (n - first) first c in
-      get_or-append (columnFrom at c first (n - first)) rest float.zero k (omega arith)
-      ∙ column-at (n - first) first c k (omega arith)
+  in_column : (c r k : ℕ) (rest : List Float) → first_row symmetric c ≤ r → r < n → k ≡ r - first_row symmetric c → get_or (column_from at c (first_row symmetric c) (n - first_row symmetric c) ++ rest) k float.zero ≡ at r c
+  in_column c r k rest below row place =
+      let first = first_row symmetric c in
+      let long = column_length (n - first) first c in
+      get_or-append (column_from at c first (n - first)) rest float.zero k (omega arith)
+      ∙ column_at (n - first) first c k (omega arith)
       ∙ ap (λ (i : ℕ). at i c) (let z : first + k ≡ r = omega arith in z)
 
   -- the entry at row r, column m, among d columns from column c on
-  columns-at : (d c r m k : ℕ) → c + d ≡ n → c ≤ m → m < n → firstRow symmetric m ≤ r → r < n → start symmetric n c + k ≡ start symmetric n m + (r - firstRow symmetric m)
-      → get_or (columnsFrom symmetric n at c d) k float.zero ≡ at r m
-  unfolding columnsFrom
-  columns-at zero c r m k all here inside below row place = absurd (omega arith)
-  columns-at (suc d) c r m k all here inside below row place = by (ℕ_discrete c m) (λ i. columns-at d (c + 1) r m i)
+  columns_at : (d c r m k : ℕ) → c + d ≡ n → c ≤ m → m < n → first_row symmetric m ≤ r → r < n → start symmetric n c + k ≡ start symmetric n m + (r - first_row symmetric m)
+      → get_or (columns_from symmetric n at c d) k float.zero ≡ at r m
+  unfolding columns_from
+  columns_at zero c r m k all here inside below row place = absurd (omega arith)
+  columns_at (suc d) c r m k all here inside below row place = by (ℕ_discrete c m) (λ i. columns_at d (c + 1) r m i)
     where
       after : List Float
-      after = columnsFrom symmetric n at (c + 1) d
+      after = columns_from symmetric n at (c + 1) d
 
       by : Dec (c ≡ m)
-          → ((i : ℕ) → c + 1 + d ≡ n → c + 1 ≤ m → m < n → firstRow symmetric m ≤ r → r < n → start symmetric n (c + 1) + i ≡ start symmetric n m + (r - firstRow symmetric m) → get_or after i float.zero ≡ at r m)
-          → get_or (columnFrom at c (firstRow symmetric c) (n - firstRow symmetric c) ++ after) k float.zero ≡ at r m
+          → ((i : ℕ) → c + 1 + d ≡ n → c + 1 ≤ m → m < n → first_row symmetric m ≤ r → r < n → start symmetric n (c + 1) + i ≡ start symmetric n m + (r - first_row symmetric m) → get_or after i float.zero ≡ at r m)
+          → get_or (column_from at c (first_row symmetric c) (n - first_row symmetric c) ++ after) k float.zero ≡ at r m
       by (yes e) more =
           let same = ap (start symmetric n) e in
-          let first = ap (firstRow symmetric) e in
-          in-column c r k after (omega arith) row (omega arith) ∙ ap (at r) e
+          let first = ap (first_row symmetric) e in
+          in_column c r k after (omega arith) row (omega arith) ∙ ap (at r) e
       by (no e) more =
-          let first = firstRow symmetric c in
-          let column = columnFrom at c first (n - first) in
-          let long = column-length (n - first) first c in
-          let next = start-next n c symmetric (omega arith) in
-          let later = start-later symmetric n (m - (c + 1)) (c + 1) m (omega arith) (omega arith) in
+          let first = first_row symmetric c in
+          let column = column_from at c first (n - first) in
+          let long = column_length (n - first) first c in
+          let next = start_next n c symmetric (omega arith) in
+          let later = start_later symmetric n (m - (c + 1)) (c + 1) m (omega arith) (omega arith) in
           ap (λ (i : ℕ). get_or (column ++ after) i float.zero) (let z : k ≡ length column + (k - (n - first)) = omega arith in z)
           ∙ get_or-append-add column after (k - (n - first)) float.zero
           ∙ more (k - (n - first)) (omega arith) (omega arith) inside below row (omega arith)
 
   -- the entry at row r, column c is number place_of of all
-  pub listed_at : (r c : ℕ) → c < n → firstRow symmetric c ≤ r → r < n → get_or (columnsFrom symmetric n at 0 n) (place_of symmetric n r c) float.zero ≡ at r c
+  pub listed_at : (r c : ℕ) → c < n → first_row symmetric c ≤ r → r < n → get_or (columns_from symmetric n at 0 n) (place_of symmetric n r c) float.zero ≡ at r c
   listed_at r c inside below row =
-      let follows = place-follows n c symmetric r (omega arith) below in
+      let follows = place_follows n c symmetric r (omega arith) below in
       let first = start_first symmetric n in
-      columns-at n 0 r c (place_of symmetric n r c) (omega arith) (omega arith) inside below row (omega arith)
+      columns_at n 0 r c (place_of symmetric n r c) (omega arith) (omega arith) inside below row (omega arith)
 
 -- ---- a list of as many numbers, listed from where they stand, is itself
 module _ (symmetric : Bool) (n : ℕ) (numbers : List Float) (count : length numbers ≡ count_of symmetric n) (at : ℕ → ℕ → Float)
-    (placed : (r c : ℕ) → c < n → firstRow symmetric c ≤ r → r < n → at r c ≡ get_or numbers (place_of symmetric n r c) float.zero) where
-  column-back : (d r c : ℕ) (rest : List Float) → c < n → firstRow symmetric c ≤ r → r + d ≡ n → rest ≡ drop (start symmetric n (c + 1)) numbers → columnFrom at c r d ++ rest ≡ drop (place_of symmetric n r c) numbers
-  unfolding columnFrom
-  column-back zero r c rest inside below all same =
-      let follows = place-follows n c symmetric r (omega arith) below in
-      let next = start-next n c symmetric inside in
+    (placed : (r c : ℕ) → c < n → first_row symmetric c ≤ r → r < n → at r c ≡ get_or numbers (place_of symmetric n r c) float.zero) where
+  column_back : (d r c : ℕ) (rest : List Float) → c < n → first_row symmetric c ≤ r → r + d ≡ n → rest ≡ drop (start symmetric n (c + 1)) numbers → column_from at c r d ++ rest ≡ drop (place_of symmetric n r c) numbers
+  unfolding column_from
+  column_back zero r c rest inside below all same =
+      let follows = place_follows n c symmetric r (omega arith) below in
+      let next = start_next n c symmetric inside in
       same ∙ ap (λ (i : ℕ). drop i numbers) (let z : start symmetric n (c + 1) ≡ place_of symmetric n r c = omega arith in z)
-  column-back (suc d) r c rest inside below all same =
-      let follows = place-follows n c symmetric r (omega arith) below in
-      let next-follows = place-follows n c symmetric (r + 1) (omega arith) (omega arith) in
-      let next = start-next n c symmetric inside in
-      let later = start-later symmetric n (n - (c + 1)) (c + 1) n (omega arith) (omega arith) in
-      let end = start-end symmetric n in
-      (λ i. placed r c inside below (omega arith) i ∷ column-back d (r + 1) c rest inside (omega arith) (omega arith) same i)
+  column_back (suc d) r c rest inside below all same =
+      let follows = place_follows n c symmetric r (omega arith) below in
+      let next-follows = place_follows n c symmetric (r + 1) (omega arith) (omega arith) in
+      let next = start_next n c symmetric inside in
+      let later = start_later symmetric n (n - (c + 1)) (c + 1) n (omega arith) (omega arith) in
+      let end = start_end symmetric n in
+      (λ i. placed r c inside below (omega arith) i ∷ column_back d (r + 1) c rest inside (omega arith) (omega arith) same i)
       ∙ ap (λ (i : ℕ). get_or numbers (place_of symmetric n r c) float.zero ∷ drop i numbers) (let z : place_of symmetric n (r + 1) c ≡ suc (place_of symmetric n r c) = omega arith in z)
       ∙ sym (drop-cons numbers (place_of symmetric n r c) float.zero (omega arith))
 
-  columns-back : (d c : ℕ) → c + d ≡ n → columnsFrom symmetric n at c d ≡ drop (start symmetric n c) numbers
-  unfolding columnsFrom
-  columns-back zero c all =
+  columns_back : (d c : ℕ) → c + d ≡ n → columns_from symmetric n at c d ≡ drop (start symmetric n c) numbers
+  unfolding columns_from
+  columns_back zero c all =
       let e : c ≡ n = omega arith in
-      let end = ap (start symmetric n) e ∙ start-end symmetric n in
+      let end = ap (start symmetric n) e ∙ start_end symmetric n in
       sym (drop_of_length-le numbers {i = start symmetric n c} (omega arith))
-  columns-back (suc d) c all =
-      column-back (n - firstRow symmetric c) (firstRow symmetric c) c (columnsFrom symmetric n at (c + 1) d) (omega arith) (omega arith) (first-inside symmetric) (columns-back d (c + 1) (omega arith))
+  columns_back (suc d) c all =
+      column_back (n - first_row symmetric c) (first_row symmetric c) c (columns_from symmetric n at (c + 1) d) (omega arith) (omega arith) (first_inside symmetric) (columns_back d (c + 1) (omega arith))
     where
-      first-inside : (s : Bool) → firstRow s c + (n - firstRow s c) ≡ n
-      first-inside true = omega arith
-      first-inside false = omega arith
+      first_inside : (s : Bool) → first_row s c + (n - first_row s c) ≡ n
+      first_inside true = omega arith
+      first_inside false = omega arith
 
-  pub listed_back : columnsFrom symmetric n at 0 n ≡ numbers
-  listed_back = columns-back n 0 (omega arith) ∙ ap (λ (i : ℕ). drop i numbers) (start_first symmetric n)
+  pub listed_back : columns_from symmetric n at 0 n ≡ numbers
+  listed_back = columns_back n 0 (omega arith) ∙ ap (λ (i : ℕ). drop i numbers) (start_first symmetric n)

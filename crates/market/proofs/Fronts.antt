@@ -8,9 +8,9 @@ use lib.Dec.{eqb, ltb}
 use lib.ListN.{length, drop}
 use borrow.Author.Tests.{eqb-true, ltb-true}
 use Rattle.algebra.specs.Outcome.{Outcome, value, refused}
-use Rattle.texts.specs.Digits.{byte_at, every, isDigit, digitValue, starts_with}
+use Rattle.texts.specs.Digits.{byte_at, every, is_digit, digit_value, starts_with}
 use Rattle.texts.specs.Whole.{worth, past}
-use Rattle.texts.proofs.Every.{both_true, every-at}
+use Rattle.texts.proofs.Every.{both_true, every_at}
 use Rattle.market.specs.Format.{Digits, header}
 use Rattle.market.proofs.Decimals.{AllDigits}
 
@@ -28,9 +28,9 @@ module _ {R : Type 0} (number : ℕ) (r : R) where
   spared false x e = (refl, e)
 
 -- ---- bytes in front of a text: none of them is 0, so that they stand inside it
-pub first-split : (l : List ℕ) (b : ℕ) → byte_at l 0 ≡ b → 0 < b → l ≡ b ∷ drop 1 l
-first-split [] b e h = absurd (omega arith)
-first-split (c ∷ l) b e h = ap (λ (x : ℕ). x ∷ l) e
+pub first_split : (l : List ℕ) (b : ℕ) → byte_at l 0 ≡ b → 0 < b → l ≡ b ∷ drop 1 l
+first_split [] b e h = absurd (omega arith)
+first_split (c ∷ l) b e h = ap (λ (x : ℕ). x ∷ l) e
 
 word_split : (word text : List ℕ) → ((i : ℕ) → i < length word → byte_at text i ≡ byte_at word i) → ((i : ℕ) → i < length word → 0 < byte_at word i)
     → text ≡ word ++ drop (length word) text
@@ -39,66 +39,66 @@ word_split (b ∷ word) [] same some = absurd (let e = same 0 (omega arith) in l
 word_split (b ∷ word) (c ∷ text) same some =
     (λ i. same 0 (omega arith) i ∷ word_split word text (λ j h. same (suc j) (omega arith)) (λ j h. some (suc j) (omega arith)) i)
 
-header-some : (s : Bool) → every (λ i. ltb 0 (byte_at (header s) i)) (length (header s)) ≡ true
+header_some : (s : Bool) → every (λ i. ltb 0 (byte_at (header s) i)) (length (header s)) ≡ true
 unfolding every
-header-some true = refl
-header-some false = refl
+header_some true = refl
+header_some false = refl
 
-pub header-split : (s : Bool) (text : List ℕ) → starts_with (header s) text ≡ true → text ≡ header s ++ drop (length (header s)) text
+pub header_split : (s : Bool) (text : List ℕ) → starts_with (header s) text ≡ true → text ≡ header s ++ drop (length (header s)) text
 unfolding starts_with
-header-split s text e =
+header_split s text e =
     word_split (header s) text
-    (λ i h. eqb-true (byte_at text i) (byte_at (header s) i) (every-at (λ j. eqb (byte_at text j) (byte_at (header s) j)) (length (header s)) i e h))
-    (λ i h. ltb-true 0 (byte_at (header s) i) (every-at (λ j. ltb 0 (byte_at (header s) j)) (length (header s)) i (header-some s) h))
+    (λ i h. eqb-true (byte_at text i) (byte_at (header s) i) (every_at (λ j. eqb (byte_at text j) (byte_at (header s) j)) (length (header s)) i e h))
+    (λ i h. ltb-true 0 (byte_at (header s) i) (every_at (λ j. ltb 0 (byte_at (header s) j)) (length (header s)) i (header_some s) h))
 
 -- ---- the digits in front of a text
 unfoldable pub front : List ℕ → List ℕ
 front [] = []
-front (b ∷ l) = cond (isDigit 10 b) (b ∷ front l) []
+front (b ∷ l) = cond (is_digit 10 b) (b ∷ front l) []
 
-pub front-past : (l : List ℕ) → l ≡ front l ++ past l
+pub front_past : (l : List ℕ) → l ≡ front l ++ past l
 unfolding front past
-front-past [] = refl
-front-past (b ∷ l) = by (isDigit 10 b) (front-past l)
+front_past [] = refl
+front_past (b ∷ l) = by (is_digit 10 b) (front_past l)
   where
     by : (t : Bool) → l ≡ front l ++ past l → b ∷ l ≡ cond t (b ∷ front l) [] ++ cond t (past l) (b ∷ l)
     by true more = ap (λ (r : List ℕ). b ∷ r) more
     by false more = refl
 
-pub front-worth : (l : List ℕ) (v : ℕ) → worth v (front l) ≡ worth v l
+pub front_worth : (l : List ℕ) (v : ℕ) → worth v (front l) ≡ worth v l
 unfolding front worth
-front-worth [] v = refl
-front-worth (b ∷ l) v = by (isDigit 10 b) refl (front-worth l (v * 10 + digitValue b))
+front_worth [] v = refl
+front_worth (b ∷ l) v = by (is_digit 10 b) refl (front_worth l (v * 10 + digit_value b))
   where
-    by : (t : Bool) → isDigit 10 b ≡ t → worth (v * 10 + digitValue b) (front l) ≡ worth (v * 10 + digitValue b) l → worth v (cond t (b ∷ front l) []) ≡ cond t (worth (v * 10 + digitValue b) l) v
+    by : (t : Bool) → is_digit 10 b ≡ t → worth (v * 10 + digit_value b) (front l) ≡ worth (v * 10 + digit_value b) l → worth v (cond t (b ∷ front l) []) ≡ cond t (worth (v * 10 + digit_value b) l) v
     by true e more = rw e more
     by false e more = refl
 
-pub front-digits : (l : List ℕ) → AllDigits (front l)
+pub front_digits : (l : List ℕ) → AllDigits (front l)
 unfolding front
-front-digits [] = λ j h. absurd (omega arith)
-front-digits (b ∷ l) = by (isDigit 10 b) refl (front-digits l)
+front_digits [] = λ j h. absurd (omega arith)
+front_digits (b ∷ l) = by (is_digit 10 b) refl (front_digits l)
   where
-    by : (t : Bool) → isDigit 10 b ≡ t → AllDigits (front l) → AllDigits (cond t (b ∷ front l) [])
+    by : (t : Bool) → is_digit 10 b ≡ t → AllDigits (front l) → AllDigits (cond t (b ∷ front l) [])
     by true e more = each
       where
-        each : (j : ℕ) → j < length (b ∷ front l) → isDigit 10 (byte_at (b ∷ front l) j) ≡ true
+        each : (j : ℕ) → j < length (b ∷ front l) → is_digit 10 (byte_at (b ∷ front l) j) ≡ true
         each zero h = e
         each (suc j) h = more j (omega arith)
     by false e more = λ j h. absurd (omega arith)
 
-front-some : (l : List ℕ) → isDigit 10 (byte_at l 0) ≡ true → 0 < length (front l)
-unfolding front digitValue
-front-some [] e = absurd (true≢false (sym e))
-front-some (b ∷ l) e = rw e (omega arith)
+front_some : (l : List ℕ) → is_digit 10 (byte_at l 0) ≡ true → 0 < length (front l)
+unfolding front digit_value
+front_some [] e = absurd (true≢false (sym e))
+front_some (b ∷ l) e = rw e (omega arith)
 
 -- one digit or more, and then the byte b
-module _ (l : List ℕ) (b : ℕ) (some : 0 < b) (e : (isDigit 10 (byte_at l 0) && eqb (byte_at (past l) 0) b) ≡ true) where
-  abbrev both : (isDigit 10 (byte_at l 0) ≡ true) × (eqb (byte_at (past l) 0) b ≡ true)
-  both = both_true (isDigit 10 (byte_at l 0)) (eqb (byte_at (past l) 0) b) e
+module _ (l : List ℕ) (b : ℕ) (some : 0 < b) (e : (is_digit 10 (byte_at l 0) && eqb (byte_at (past l) 0) b) ≡ true) where
+  abbrev both : (is_digit 10 (byte_at l 0) ≡ true) × (eqb (byte_at (past l) 0) b ≡ true)
+  both = both_true (is_digit 10 (byte_at l 0)) (eqb (byte_at (past l) 0) b) e
 
-  pub number_digits : Digits (front l)
-  number_digits = record { some = front-some l both.0; all = front-digits l }
+  pub number_digits_lem : Digits (front l)
+  number_digits_lem = record { some = front_some l both.0; all = front_digits l }
 
-  pub number-split : l ≡ front l ++ (b ∷ drop 1 (past l))
-  number-split = front-past l ∙ ap (λ (r : List ℕ). front l ++ r) (first-split (past l) b (eqb-true (byte_at (past l) 0) b both.1) some)
+  pub number_split : l ≡ front l ++ (b ∷ drop 1 (past l))
+  number_split = front_past l ∙ ap (λ (r : List ℕ). front l ++ r) (first_split (past l) b (eqb-true (byte_at (past l) 0) b both.1) some)

@@ -15,28 +15,28 @@ use borrow.Author.Tests.{lt-ltb, le-ltb, le-leb, eq-eqb}
 use Rattle.refusals.specs.Largest as largest
 use Rattle.real.specs.Operations as float
 use Rattle.market.specs.Format.{signed}
-use Rattle.market.specs.Text.{magnitude, wholePart, isWholeMagnitude, is_whole, numberLine, line_of}
-use Rattle.market.proofs.WholeFloats.{plusNothing, zero_is, has_value}
+use Rattle.market.specs.Text.{magnitude, whole_part, is_whole_magnitude, is_whole, number_line, line_of}
+use Rattle.market.proofs.WholeFloats.{plus_nothing, zero_is, has_value}
 
-neg-back : (x : Float) → neg (neg x) ≡ x
+neg_back : (x : Float) → neg (neg x) ≡ x
 unfolding neg
-neg-back nan = refl
-neg-back (inf true) = refl
-neg-back (inf false) = refl
-neg-back (fin true m e) = refl
-neg-back (fin false m e) = refl
+neg_back nan = refl
+neg_back (inf true) = refl
+neg_back (inf false) = refl
+neg_back (fin true m e) = refl
+neg_back (fin false m e) = refl
 
 -- ---- a float y whose value is v
 module _ (v : ℕ) where
-  not-below : (y : Float) → HasValue y false v 1 → lt y plusNothing ≡ false
+  not_below : (y : Float) → HasValue y false v 1 → lt y plus_nothing ≡ false
   unfolding lt
-  not-below (fin true m e) h = absurd (true≢false h.0)
-  not-below (fin false m e) h = le-ltb (m * up e * down (pos 0)) (0 * up (pos 0) * down e) (let z : 0 * up (pos 0) * down e ≡ 0 = omega arith in omega arith)
+  not_below (fin true m e) h = absurd (true≢false h.0)
+  not_below (fin false m e) h = le-ltb (m * up e * down (pos 0)) (0 * up (pos 0) * down e) (let z : 0 * up (pos 0) * down e ≡ 0 = omega arith in omega arith)
 
-  minus-below : (y : Float) → HasValue y false v 1 → 0 < v → lt (neg y) plusNothing ≡ true
+  minus_below : (y : Float) → HasValue y false v 1 → 0 < v → lt (neg y) plus_nothing ≡ true
   unfolding lt neg
-  minus-below (fin true m e) h some = absurd (true≢false h.0)
-  minus-below (fin false m e) h some = let g : 0 < v * down e = mul-pos some (down_pos e) in let q = h.1 in lt-ltb 0 (m * up e * down (pos 0) + 0 * up (pos 0) * down e) (omega arith)
+  minus_below (fin true m e) h some = absurd (true≢false h.0)
+  minus_below (fin false m e) h some = let g : 0 < v * down e = mul-pos some (down_pos e) in let q = h.1 in lt-ltb 0 (m * up e * down (pos 0) + 0 * up (pos 0) * down e) (omega arith)
 
   above_minus_one : (y : Float) → HasValue y false v 1 → lt (neg (of_bits binary64 0x3ff0_0000_0000_0000)) y ≡ true
   unfolding lt neg of_bits
@@ -65,40 +65,40 @@ module _ (v : ℕ) (small : v ≤ largest.whole) where
   has : HasValue whole false v 1
   has = has_value v small
 
-  in-float : T (in_float binary64 (pos v))
+  in_float_lem : T (in_float binary64 (pos v))
   unfolding in_float
-  in-float = le→leb v largest.whole small
+  in_float_lem = le→leb v largest.whole small
 
-  part-is : wholePart whole ≡ v
-  part-is = (unsigned_back binary64 64 v in-float (omega arith)).1
+  part_is : whole_part whole ≡ v
+  part_is = (unsigned_back binary64 64 v in_float_lem (omega arith)).1
 
-  whole-magnitude : isWholeMagnitude whole ≡ true
-  unfolding isWholeMagnitude
-  whole-magnitude = rw (above_minus_one v whole has, below_top v whole has small, part-is, le-leb v largest.whole small, itself v whole has)
+  whole_magnitude : is_whole_magnitude whole ≡ true
+  unfolding is_whole_magnitude
+  whole_magnitude = rw (above_minus_one v whole has, below_top v whole has small, part_is, le-leb v largest.whole small, itself v whole has)
 
   -- with a minus only where it is not zero
   module _ (minus : Bool) (some : minus ≡ true → 0 < v) where
-    sign-is : lt (signed minus v) float.zero ≡ minus
+    sign_is : lt (signed minus v) float.zero ≡ minus
     unfolding signed
-    sign-is = by minus some
+    sign_is = by minus some
       where
         by : (t : Bool) → (t ≡ true → 0 < v) → lt (signed t v) float.zero ≡ t
-        by true s = rw (lt-ltb 0 v (s refl), zero_is) (minus-below v whole has (s refl))
-        by false s = ap (lt whole) zero_is ∙ not-below v whole has
+        by true s = rw (lt-ltb 0 v (s refl), zero_is) (minus_below v whole has (s refl))
+        by false s = ap (lt whole) zero_is ∙ not_below v whole has
 
-    magnitude-is : magnitude (signed minus v) ≡ whole
+    magnitude_is : magnitude (signed minus v) ≡ whole
     unfolding signed magnitude
-    magnitude-is = ap (λ (t : Bool). cond t (neg (signed minus v)) (signed minus v)) sign-is ∙ by minus some
+    magnitude_is = ap (λ (t : Bool). cond t (neg (signed minus v)) (signed minus v)) sign_is ∙ by minus some
       where
         by : (t : Bool) → (t ≡ true → 0 < v) → cond t (neg (signed t v)) (signed t v) ≡ whole
-        by true s = rw (lt-ltb 0 v (s refl)) (neg-back whole)
+        by true s = rw (lt-ltb 0 v (s refl)) (neg_back whole)
         by false s = refl
 
-    pub signed-whole : is_whole (signed minus v) ≡ true
-    signed-whole = ap isWholeMagnitude magnitude-is ∙ whole-magnitude
+    pub signed_whole : is_whole (signed minus v) ≡ true
+    signed_whole = ap is_whole_magnitude magnitude_is ∙ whole_magnitude
 
-    pub signed-line : line_of (signed minus v) ≡ numberLine minus v
+    pub signed_line : line_of (signed minus v) ≡ number_line minus v
     unfolding line_of
-    signed-line =
-        ap (λ (t : Bool). cond t (numberLine (lt (signed minus v) float.zero) (wholePart (magnitude (signed minus v)))) []) signed-whole
-        ∙ (λ i. numberLine (sign-is i) ((ap wholePart magnitude-is ∙ part-is) i))
+    signed_line =
+        ap (λ (t : Bool). cond t (number_line (lt (signed minus v) float.zero) (whole_part (magnitude (signed minus v)))) []) signed_whole
+        ∙ (λ i. number_line (sign_is i) ((ap whole_part magnitude_is ∙ part_is) i))

@@ -12,39 +12,39 @@ use Rattle.refusals.specs.Largest as largest
 use Rattle.real.specs.Operations as float
 use Rattle.texts.proofs.Every.{both_true}
 use Rattle.market.specs.Format.{signed}
-use Rattle.market.specs.Text.{magnitude, wholePart, in_range, isWholeMagnitude, is_whole}
+use Rattle.market.specs.Text.{magnitude, whole_part, in_range, is_whole_magnitude, is_whole}
 
 -- +0.0, by its sign, its digits and its exponent
-abbrev pub plusNothing : Float
-plusNothing = fin false 0 (pos 0)
+abbrev pub plus_nothing : Float
+plus_nothing = fin false 0 (pos 0)
 
-pub zero_is : float.zero ≡ plusNothing
+pub zero_is : float.zero ≡ plus_nothing
 unfolding of_bits
 zero_is = refl
 
 -- what a whole number is read back as: its magnitude with its sign, -0 as +0
-abbrev pub backOf : Float → Float
-backOf x = signed (lt x float.zero) (wholePart (magnitude x))
+abbrev pub back_of : Float → Float
+back_of x = signed (lt x float.zero) (whole_part (magnitude x))
 
 module _ (x : Float) where
-  pub magnitude-minus : lt x float.zero ≡ true → neg x ≡ magnitude x
+  pub magnitude_minus : lt x float.zero ≡ true → neg x ≡ magnitude x
   unfolding magnitude
-  magnitude-minus e = rw e
+  magnitude_minus e = rw e
 
-  pub magnitude-plain : lt x float.zero ≡ false → x ≡ magnitude x
+  pub magnitude_plain : lt x float.zero ≡ false → x ≡ magnitude x
   unfolding magnitude
-  magnitude-plain e = rw e
+  magnitude_plain e = rw e
 
 -- ---- a float that passes
 module _ (x : Float) (e : is_whole x ≡ true) where
-  parts : (leb (wholePart (magnitude x)) largest.whole ≡ true) × (eq (of_int binary64 (pos (wholePart (magnitude x)))) (magnitude x) ≡ true)
-  unfolding isWholeMagnitude
-  parts = both_true (leb (wholePart (magnitude x)) largest.whole) (eq (of_int binary64 (pos (wholePart (magnitude x)))) (magnitude x)) (both_true (in_range (magnitude x)) (leb (wholePart (magnitude x)) largest.whole && eq (of_int binary64 (pos (wholePart (magnitude x)))) (magnitude x)) e).1
+  parts : (leb (whole_part (magnitude x)) largest.whole ≡ true) × (eq (of_int binary64 (pos (whole_part (magnitude x)))) (magnitude x) ≡ true)
+  unfolding is_whole_magnitude
+  parts = both_true (leb (whole_part (magnitude x)) largest.whole) (eq (of_int binary64 (pos (whole_part (magnitude x)))) (magnitude x)) (both_true (in_range (magnitude x)) (leb (whole_part (magnitude x)) largest.whole && eq (of_int binary64 (pos (whole_part (magnitude x)))) (magnitude x)) e).1
 
-  pub whole-small : wholePart (magnitude x) ≤ largest.whole
-  whole-small = leb-true (wholePart (magnitude x)) largest.whole parts.0
+  pub whole_small : whole_part (magnitude x) ≤ largest.whole
+  whole_small = leb-true (whole_part (magnitude x)) largest.whole parts.0
 
-  pub whole_same : eq (of_int binary64 (pos (wholePart (magnitude x)))) (magnitude x) ≡ true
+  pub whole_same : eq (of_int binary64 (pos (whole_part (magnitude x)))) (magnitude x) ≡ true
   whole_same = parts.1
 
 -- ---- the float of a whole number
@@ -52,6 +52,6 @@ pub has_value : (v : ℕ) → v ≤ largest.whole → HasValue (of_int binary64 
 unfolding of_int
 has_value v small = round_whole binary64 false v small
 
-pub of_zero : (v : ℕ) → v ≡ 0 → of_int binary64 (pos v) ≡ plusNothing
+pub of_zero : (v : ℕ) → v ≡ 0 → of_int binary64 (pos v) ≡ plus_nothing
 unfolding of_int round
 of_zero v e = ap (λ (n : ℕ). of_int binary64 (pos n)) e

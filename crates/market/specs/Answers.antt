@@ -5,9 +5,9 @@ use Rattle.market.specs.declared.MarketAnswer.{MarketAnswer}
 use Rattle.market.specs.declared.MarketAnswer.TheVariants.{Done, Refused}
 
 -- done with the size or the length, or the number that the call is refused by
-abbrev pub marketOutcome : MarketAnswer → Outcome ℕ
-marketOutcome (Done count) = value count
-marketOutcome (Refused number) = refused number
+abbrev pub market_outcome : MarketAnswer → Outcome ℕ
+market_outcome (Done count) = value count
+market_outcome (Refused number) = refused number
 
 -- what a call leaves: the answer, and what it was lent to be written: floats by the reader, bytes by the writer
 pub record Left (A : Type 0) : Type 0 where

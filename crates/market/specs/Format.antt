@@ -6,7 +6,7 @@ use Rattle.std.specs.Float.Ieee.{neg, of_int}
 use Rattle.refusals.specs.Largest as largest
 use Rattle.real.specs.Operations as float
 use Rattle.texts.specs.Bytes as byte
-use Rattle.texts.specs.Digits.{byte_at, isDigit, noNewline}
+use Rattle.texts.specs.Digits.{byte_at, is_digit, no_newline}
 use Rattle.texts.specs.Whole.{worth}
 
 -- "%%MatrixMarket matrix array integer "
@@ -33,16 +33,16 @@ sign minus = cond minus (byte.minus ∷ []) []
 -- one digit or more, and nothing else
 pub record Digits (l : List ℕ) : Type 0 where
   pub some : 0 < length l
-  pub all : (j : ℕ) → j < length l → isDigit 10 (byte_at l j) ≡ true
+  pub all : (j : ℕ) → j < length l → is_digit 10 (byte_at l j) ≡ true
 
 -- no zero stands in front of another digit
 abbrev pub Short : List ℕ → Type 0
-Short l = byte_at l 0 ≡ byte.digitZero → length l ≡ 1
+Short l = byte_at l 0 ≡ byte.digit_zero → length l ≡ 1
 
 -- comment lines: each a %, any bytes, and a newline
 pub data Comments : List ℕ → Type 0 where
   none : Comments []
-  comment : (line rest : List ℕ) → noNewline line ≡ true → Comments rest → Comments (byte.percent ∷ (line ++ (byte.newline ∷ rest)))
+  comment : (line rest : List ℕ) → no_newline line ≡ true → Comments rest → Comments (byte.percent ∷ (line ++ (byte.newline ∷ rest)))
 
 -- Entries, a line each: a minus or none, digits of a magnitude up to 2^53, a newline; with the numbers that they are. `tidy`: no zero in front, and no -0.
 pub data Entries (tidy : Bool) : List ℕ → List Float → Type 0 where
@@ -61,10 +61,10 @@ pub record Market (tidy symmetric : Bool) (n : ℕ) (numbers : List Float) (text
   pub lines : text ≡ header symmetric ++ (comments ++ (rows ++ (byte.space ∷ (columns ++ (byte.newline ∷ entries)))))
   pub commented : Comments comments
   pub plain : tidy ≡ true → comments ≡ []
-  pub row-digits : Digits rows
-  pub column-digits : Digits columns
-  pub short-rows : tidy ≡ true → Short rows
-  pub short-columns : tidy ≡ true → Short columns
+  pub row_digits : Digits rows
+  pub column_digits : Digits columns
+  pub short_rows : tidy ≡ true → Short rows
+  pub short_columns : tidy ≡ true → Short columns
   pub height : worth 0 rows ≡ n
   pub breadth : worth 0 columns ≡ n
   pub listed : Entries tidy entries numbers
@@ -91,18 +91,18 @@ pub record GoesOn (k : ℕ) (text : List ℕ) : Type 0 where
   pub count : length numbers ≡ k
 
 -- so many entries of column c, from row r on
-unfoldable pub columnFrom : (ℕ → ℕ → Float) → ℕ → ℕ → ℕ → List Float
-columnFrom at c r zero = []
-columnFrom at c r (suc d) = at r c ∷ columnFrom at c (r + 1) d
+unfoldable pub column_from : (ℕ → ℕ → Float) → ℕ → ℕ → ℕ → List Float
+column_from at c r zero = []
+column_from at c r (suc d) = at r c ∷ column_from at c (r + 1) d
 
 -- the row that a column begins with: the first of all, or the diagonal's
-abbrev pub firstRow : Bool → ℕ → ℕ
-firstRow symmetric c = cond symmetric c 0
+abbrev pub first_row : Bool → ℕ → ℕ
+first_row symmetric c = cond symmetric c 0
 
 -- so many columns, from column c on, each to the last row
-unfoldable pub columnsFrom : Bool → ℕ → (ℕ → ℕ → Float) → ℕ → ℕ → List Float
-columnsFrom symmetric n at c zero = []
-columnsFrom symmetric n at c (suc d) = columnFrom at c (firstRow symmetric c) (n - firstRow symmetric c) ++ columnsFrom symmetric n at (c + 1) d
+unfoldable pub columns_from : Bool → ℕ → (ℕ → ℕ → Float) → ℕ → ℕ → List Float
+columns_from symmetric n at c zero = []
+columns_from symmetric n at c (suc d) = column_from at c (first_row symmetric c) (n - first_row symmetric c) ++ columns_from symmetric n at (c + 1) d
 
 -- the real part at row r, column c of a matrix row by row, w floats a record
 abbrev pub real_at : ℕ → ℕ → List Float → ℕ → ℕ → Float
@@ -111,6 +111,6 @@ real_at w n a r c = get_or a ((r * n + c) * w) float.zero
 -- A matrix of these numbers: its real parts, column by column (all, or the diagonal and below, and the same above it), are the numbers; every other part is zero.
 pub record Holds (w : ℕ) (symmetric : Bool) (n : ℕ) (numbers a : List Float) : Type 0 where
   pub long : length a ≡ n * n * w
-  pub columns : columnsFrom symmetric n (real_at w n a) 0 n ≡ numbers
+  pub columns : columns_from symmetric n (real_at w n a) 0 n ≡ numbers
   pub mirrored : symmetric ≡ true → (r c : ℕ) → r < n → c < n → real_at w n a r c ≡ real_at w n a c r
   pub slopes : (j : ℕ) → j < n * n * w → (j % w ≡ 0 → ⊥) → get_or a j float.zero ≡ float.zero

@@ -2,7 +2,7 @@
 // the laws of both together. The code stands in `market_reader` and `market_writer`.
 ghost use Rattle.std.specs.Prelude.{◌≡◌};
 ghost use Rattle.algebra.specs.Outcome.{number_of};
-ghost use Rattle.market.specs.Answers.{marketOutcome};
+ghost use Rattle.market.specs.Answers.{market_outcome};
 
 // The bytes that the writer is lent.
 pub const PAGE: usize = 20480;
@@ -17,7 +17,7 @@ pub enum MarketAnswer {
 impl MarketAnswer {
     // The documents' number, 0 where the call is done.
     pub fn number(self) -> u32
-        ensures { result ≡ number_of (marketOutcome self) }
+        ensures { result ≡ number_of (market_outcome self) }
     {
         match self {
             MarketAnswer::Done { count: _ } => 0,

@@ -43,13 +43,13 @@ TellsEntry text (entry.Is x next) o = Reads text x next o
 TellsEntry text (entry.Not number) o = Faults number o
 
 -- the number of an entry's fault, 0 for none
-abbrev pub faultOf : Entry → ℕ
-faultOf (entry.Is x next) = 0
-faultOf (entry.Not number) = number
+abbrev pub fault_of : Entry → ℕ
+fault_of (entry.Is x next) = 0
+fault_of (entry.Not number) = number
 
 -- 0 with the numbers, or the number of the first fault
-abbrev pub toldNumbers : ℕ → List Float → Outcome (List Float)
-toldNumbers number l = cond (eqb number 0) (value l) (refused number)
+abbrev pub told_numbers : ℕ → List Float → Outcome (List Float)
+told_numbers number l = cond (eqb number 0) (value l) (refused number)
 
 -- the first p records stand in the floats, and zeros after them
 pub record PlacedUpTo (w : ℕ) (symmetric : Bool) (n : ℕ) (numbers : List Float) (p : ℕ) (out : List Float) : Type 0 where

@@ -2,8 +2,8 @@
 ghost use Rattle.std.specs.Prelude.{◌≡◌, ◌≤◌, ◌<◌, length, drop};
 ghost use Rattle.refusals.specs.Largest as largest;
 ghost use Rattle.market.specs.Format as Format;
-ghost use Rattle.market.specs.Entries.{magnitudeLine, entry_of, numbersOf};
-ghost use Rattle.market_reader.specs.Told.{TellsEntry, faultOf, toldNumbers};
+ghost use Rattle.market.specs.Entries.{magnitude_line, entry_of, numbers_of};
+ghost use Rattle.market_reader.specs.Told.{TellsEntry, fault_of, told_numbers};
 
 use super::Entry;
 use texts::{read, whole};
@@ -25,7 +25,7 @@ fn signed(minus: bool, v: u64) -> f64
 // The digits and the newline of an entry, from p on.
 fn magnitude_line(text: &[u8], minus: bool, p: usize) -> Entry
     requires { p ≤ length text.now }
-    ensures { TellsEntry text.now result (magnitudeLine minus (drop p text.now)) }
+    ensures { TellsEntry text.now result (magnitude_line minus (drop p text.now)) }
 {
     let s = whole::scan(text, p, refusals::LARGEST_WHOLE);
     let value = s.value;
@@ -69,7 +69,7 @@ fn entry(text: &[u8], p: usize) -> Entry
 
 // The number of an entry's fault; 0 for one that has none.
 fn fault(e: Entry) -> u32
-    ensures { result ≡ faultOf e }
+    ensures { result ≡ fault_of e }
 {
     match e {
         Entry::Is { x: _, next: _ } => 0,
@@ -80,7 +80,7 @@ fn fault(e: Entry) -> u32
 // As many entries as `numbers` takes, from p on to the end of the text; 0, or the number of the first fault.
 pub(crate) fn all(text: &[u8], p: usize, numbers: &mut [f64]) -> u32
     requires { p ≤ length text.now }
-    ensures { toldNumbers result numbers.new ≡ numbersOf (length numbers.old) (drop p text.now) }
+    ensures { told_numbers result numbers.new ≡ numbers_of (length numbers.old) (drop p text.now) }
 {
     let mut at = p;
     let mut i = 0;

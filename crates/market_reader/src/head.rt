@@ -3,7 +3,7 @@ ghost use Rattle.std.specs.Prelude.{◌≡◌, ◌||◌, ◌≤◌, eqb, length,
 ghost use Rattle.refusals.specs.Largest as largest;
 ghost use Rattle.texts.specs.Bytes as byte;
 ghost use Rattle.texts.specs.Whole.{worth, Found};
-ghost use Rattle.market.specs.Head.{columnsLine, sizeLine, head_of};
+ghost use Rattle.market.specs.Head.{columns_line, size_line, head_of};
 ghost use Rattle.market_reader.specs.Told.{AfterComments, TellsHead};
 
 use super::Opening;
@@ -41,7 +41,7 @@ fn comments(text: &[u8], p: usize) -> usize
 fn columns_line(text: &[u8], symmetric: bool, p: usize, rows: Scan, q: usize) -> Opening
     requires q_in_bounds { (q ≤ length text.now) × (length text.now ≤ largest.market) }
     requires found { Found largest.whole text.now p rows }
-    ensures { TellsHead text.now result (columnsLine symmetric (worth 0 (drop p text.now)) (drop q text.now)) }
+    ensures { TellsHead text.now result (columns_line symmetric (worth 0 (drop p text.now)) (drop q text.now)) }
 {
     let columns = whole::scan(text, q, refusals::LARGEST_WHOLE);
     let digits = columns.digits;
@@ -75,7 +75,7 @@ fn columns_line(text: &[u8], symmetric: bool, p: usize, rows: Scan, q: usize) ->
 // The size line from p on.
 fn size_line(text: &[u8], symmetric: bool, p: usize) -> Opening
     requires { (p ≤ length text.now) × (length text.now ≤ largest.market) }
-    ensures { TellsHead text.now result (sizeLine symmetric (drop p text.now)) }
+    ensures { TellsHead text.now result (size_line symmetric (drop p text.now)) }
 {
     let rows = whole::scan(text, p, refusals::LARGEST_WHOLE);
     let digits = rows.digits;

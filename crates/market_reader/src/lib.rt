@@ -5,9 +5,9 @@ mod places;
 
 ghost use Rattle.std.specs.Prelude.{◌≡◌, ◌<◌, ◌≤◌};
 ghost use Rattle.refusals.specs.Largest as largest;
-ghost use Rattle.market.specs.Answers.{marketOutcome, answered};
+ghost use Rattle.market.specs.Answers.{market_outcome, answered};
 ghost use Rattle.market.specs.Head.{size_of};
-ghost use Rattle.market.specs.Read.{readLeft};
+ghost use Rattle.market.specs.Read.{read_left};
 
 use market::MarketAnswer;
 
@@ -33,7 +33,7 @@ pub(crate) enum Entry {
 
 // The size of the matrix in a text.
 pub fn size(text: &[u8]) -> MarketAnswer
-    ensures { marketOutcome result ≡ size_of text.now }
+    ensures { market_outcome result ≡ size_of text.now }
 {
     match head::head(text) {
         Opening::Ready {
@@ -48,7 +48,7 @@ pub fn size(text: &[u8]) -> MarketAnswer
 // The matrix in a text, its records `width` floats wide.
 fn read_wide(text: &[u8], width: usize, out: &mut [f64]) -> MarketAnswer
     requires { (0 < width) × (width ≤ largest.width) }
-    ensures { answered (marketOutcome result) out.new ≡ readLeft width text.now out.old }
+    ensures { answered (market_outcome result) out.new ≡ read_left width text.now out.old }
 {
     match head::head(text) {
         Opening::Ready {
@@ -62,14 +62,14 @@ fn read_wide(text: &[u8], width: usize, out: &mut [f64]) -> MarketAnswer
 
 // The matrix in a text into `Dual` records, row by row: 2n² floats, the derivative parts zero. A refusal writes nothing.
 pub fn read(text: &[u8], out: &mut [f64]) -> MarketAnswer
-    ensures { answered (marketOutcome result) out.new ≡ readLeft 2 text.now out.old }
+    ensures { answered (market_outcome result) out.new ≡ read_left 2 text.now out.old }
 {
     read_wide(text, 2, out)
 }
 
 // The same into `HyperDual` records: 4n² floats.
 pub fn read_hyperdual(text: &[u8], out: &mut [f64]) -> MarketAnswer
-    ensures { answered (marketOutcome result) out.new ≡ readLeft 4 text.now out.old }
+    ensures { answered (market_outcome result) out.new ≡ read_left 4 text.now out.old }
 {
     read_wide(text, 4, out)
 }

@@ -3,9 +3,9 @@ ghost use Rattle.std.specs.Prelude.{◌≡◌, ◌+◌, ◌*◌, ◌≤◌, ◌<
 ghost use Rattle.real.specs.Operations.{zero};
 ghost use Rattle.refusals.specs.Largest as largest;
 ghost use Rattle.matrices.specs.Matrix.{Square};
-ghost use Rattle.market.specs.Answers.{marketOutcome, answered};
+ghost use Rattle.market.specs.Answers.{market_outcome, answered};
 ghost use Rattle.market.specs.Format.{count_of};
-ghost use Rattle.market.specs.Entries.{lowerPlace, place_of, matrixOf};
+ghost use Rattle.market.specs.Entries.{lower_place, place_of, matrix_of};
 ghost use Rattle.market.specs.Read.{read_body};
 ghost use Rattle.market_reader.specs.Told.{PlacedUpTo};
 
@@ -26,7 +26,7 @@ fn count(symmetric: bool, n: usize) -> usize
 // Which entry stands at row r, column c of the lower half.
 fn lower_place(n: usize, r: usize, c: usize) -> usize
     requires { (c ≤ r) × (r < n) × (n ≤ largest.n) }
-    ensures { result ≡ lowerPlace n r c }
+    ensures { result ≡ lower_place n r c }
 {
     c * n + r - c * (c + 1) / 2
 }
@@ -71,7 +71,7 @@ fn fill_row(symmetric: bool, n: usize, numbers: &[f64], r: usize, width: usize, 
 // The matrix row by row, from its entries column by column.
 fn fill(symmetric: bool, n: usize, numbers: &[f64], width: usize, out: &mut [f64])
     requires { Square width n out.old }
-    ensures { out.new ≡ matrixOf width symmetric n numbers.now }
+    ensures { out.new ≡ matrix_of width symmetric n numbers.now }
 {
     floats::clear(out);
     let mut r = 0;
@@ -94,7 +94,7 @@ fn placed(
     requires start_in_bounds { start ≤ length text.now }
     requires numbers_len { length numbers.old ≡ count_of symmetric n }
     requires square { Square width n out.old }
-    ensures { answered (marketOutcome result) out.new ≡ read_body width out.old symmetric n (drop start text.now) }
+    ensures { answered (market_outcome result) out.new ≡ read_body width out.old symmetric n (drop start text.now) }
 {
     let number = entries::all(text, start, numbers);
     if number != 0 {
@@ -114,7 +114,7 @@ pub(crate) fn body(
     out: &mut [f64],
 ) -> MarketAnswer
     requires { (start ≤ length text.now) × (n ≤ largest.n) × (0 < width) × (width ≤ largest.width) }
-    ensures { answered (marketOutcome result) out.new ≡ read_body width out.old symmetric n (drop start text.now) }
+    ensures { answered (market_outcome result) out.new ≡ read_body width out.old symmetric n (drop start text.now) }
 {
     if out.len() != n * n * width {
         return MarketAnswer::Refused {

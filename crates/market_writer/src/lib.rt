@@ -4,8 +4,8 @@ mod numbers;
 
 ghost use Rattle.std.specs.Prelude.{◌≡◌, ◌-◌, ◌<◌, ◌≤◌, ◌++◌, length, take, replicate};
 ghost use Rattle.refusals.specs.Largest as largest;
-ghost use Rattle.market.specs.Answers.{marketOutcome, answered};
-ghost use Rattle.market.specs.Write.{writeLeft};
+ghost use Rattle.market.specs.Answers.{market_outcome, answered};
+ghost use Rattle.market.specs.Write.{write_left};
 
 use market::MarketAnswer;
 
@@ -31,7 +31,7 @@ fn zeros(out: &mut [u8], at: usize)
 // The text of a matrix whose records are `width` floats wide, zeros after it.
 fn write_wide(n: usize, a: &[f64], width: usize, text: &mut [u8]) -> MarketAnswer
     requires { (0 < width) × (width ≤ largest.width) }
-    ensures { answered (marketOutcome result) text.new ≡ writeLeft width n a.now text.old }
+    ensures { answered (market_outcome result) text.new ≡ write_left width n a.now text.old }
 {
     if refusals::LARGEST_N < n {
         return MarketAnswer::Refused {
@@ -60,14 +60,14 @@ fn write_wide(n: usize, a: &[f64], width: usize, text: &mut [u8]) -> MarketAnswe
 
 // A matrix of `Dual` records as a `general` text at the start of 20,480 bytes, zeros after it; its length. A refusal writes nothing.
 pub fn write(n: usize, a: &[f64], text: &mut [u8]) -> MarketAnswer
-    ensures { answered (marketOutcome result) text.new ≡ writeLeft 2 n a.now text.old }
+    ensures { answered (market_outcome result) text.new ≡ write_left 2 n a.now text.old }
 {
     write_wide(n, a, 2, text)
 }
 
 // The same of a matrix of `HyperDual` records.
 pub fn write_hyperdual(n: usize, a: &[f64], text: &mut [u8]) -> MarketAnswer
-    ensures { answered (marketOutcome result) text.new ≡ writeLeft 4 n a.now text.old }
+    ensures { answered (market_outcome result) text.new ≡ write_left 4 n a.now text.old }
 {
     write_wide(n, a, 4, text)
 }

@@ -5,7 +5,7 @@ ghost use Rattle.real.specs.Operations.{zero};
 ghost use Rattle.texts.specs.Page.{page, written};
 ghost use Rattle.matrices.specs.Matrix.{Square};
 ghost use Rattle.market.specs.Format.{sign};
-ghost use Rattle.market.specs.Text.{line_of, lines_of, sizeText, text_of};
+ghost use Rattle.market.specs.Text.{line_of, lines_of, size_text, text_of};
 ghost use Rattle.market_writer.specs.Told.{lines_from};
 
 use super::{Whole, numbers};
@@ -63,7 +63,7 @@ fn columns(out: &mut [u8], at: usize, width: usize, n: usize, a: &[f64]) -> usiz
 
 // The size line.
 fn size_line(out: &mut [u8], at: usize, n: usize) -> usize
-    ensures { page out.new result ≡ written (page out.old at) (sizeText n) }
+    ensures { page out.new result ≡ written (page out.old at) (size_text n) }
 {
     let first = write::number(out, at, n as u64);
     let space = write::byte(out, first, b' ');

@@ -1,8 +1,8 @@
 // Which floats can be written: whole numbers up to 2^53 as real parts, zeros as all others.
 ghost use Rattle.std.specs.Prelude.{◌≡◌, ◌+◌, ◌%◌, ◌<◌};
-ghost use Rattle.market.specs.Text.{is_whole, isWritable};
+ghost use Rattle.market.specs.Text.{is_whole, is_writable};
 ghost use Rattle.market.specs.Text.{magnitude as Text·magnitude};
-ghost use Rattle.market_writer.specs.Told.{whole_of, partFits, NextPart};
+ghost use Rattle.market_writer.specs.Told.{whole_of, part_fits, NextPart};
 
 use super::Whole;
 
@@ -50,7 +50,7 @@ fn is_whole(x: f64) -> bool
 
 // Part number `part` of a record can be written.
 fn fits(part: usize, x: f64) -> bool
-    ensures { result ≡ partFits part x }
+    ensures { result ≡ part_fits part x }
 {
     if part == 0 {
         return is_whole(x);
@@ -72,7 +72,7 @@ fn next(part: usize, width: usize) -> usize
 // Every float can be written.
 pub(crate) fn writable(width: usize, a: &[f64]) -> bool
     requires { 0 < width }
-    ensures { result ≡ isWritable width a.now }
+    ensures { result ≡ is_writable width a.now }
 {
     let mut part = 0;
     let mut j = 0;

@@ -19,34 +19,34 @@ use Rattle.real.specs.Operations as float
 use Rattle.real.proofs.Only.{Only}
 use Rattle.algebra.specs.Algebra.{Algebra}
 use Rattle.algebra.specs.Flat.{Layout, decode}
-use Rattle.algebra.specs.Outcome.{Outcome, value, refused, mapOutcome}
-use Rattle.matrices.specs.Answers.{luOutcome, luColumn, solveOutcome}
-use Rattle.matrices.specs.Entries.{LuLeft, luAnswered, luLeft, SolveLeft, solveAnswered, solveLeft, inverseLeft, determinantLeft}
-use Rattle.matrices.specs.Determinant.{determinantOf}
+use Rattle.algebra.specs.Outcome.{Outcome, value, refused, map_outcome}
+use Rattle.matrices.specs.Answers.{lu_outcome, lu_column, solve_outcome}
+use Rattle.matrices.specs.Entries.{LuLeft, lu_answered, lu_left, SolveLeft, solve_answered, solve_left, inverse_left, determinant_left}
+use Rattle.matrices.specs.Determinant.{determinant_of}
 use Rattle.matrices.specs.PreviousContents.{EqualLu, EqualSolve}
 use Rattle.matrices.specs.SameReals.{Alike, SameLu, SameSolve}
 use Rattle.matrices.specs.declared.LuAnswer.{LuAnswer}
 use Rattle.matrices.specs.declared.LuAnswer.TheVariants as lu
 use Rattle.matrices.specs.declared.SolveAnswer.{SolveAnswer}
 use Rattle.matrices.specs.declared.SolveAnswer.TheVariants as solve
-use Rattle.matrices.proofs.AfterLu.{lu-full, solve-accepts, inverse-accepts, determinant-accepts}
-use Rattle.matrices.proofs.Answers.{LeavesOrder, lu-leaves-order, solve-done, inverse-done, determinant-done, lu-same, solve-same, inverse-same, determinant-same}
+use Rattle.matrices.proofs.AfterLu.{lu_full, solve_accepts, inverse_accepts, determinant_accepts}
+use Rattle.matrices.proofs.Answers.{LeavesOrder, lu_leaves_order, solve_done, inverse_done, determinant_done, lu_same, solve_same, inverse_same, determinant_same}
 use Rattle.algebra.proofs.Laws.{Laws}
-use Rattle.matrices.proofs.PreviousContents.{lu-equal, lu-kept, lu-zero, solve-equal, solve-kept, inverse-equal, inverse-kept}
-use Rattle.orders.proofs.Times.{order-occurs}
+use Rattle.matrices.proofs.PreviousContents.{lu_equal, lu_kept, lu_zero, solve_equal, solve_kept, inverse_equal, inverse_kept}
+use Rattle.orders.proofs.Times.{order_occurs}
 
 -- document 01's reading tells the answers apart
-pub lu-one : (x y : LuAnswer) → luOutcome x ≡ luOutcome y → luColumn x ≡ luColumn y → x ≡ y
-lu-one (lu.Done s) (lu.Done t) e f = cc
-lu-one (lu.Done s) (lu.Refused k c) e f = cc
-lu-one (lu.Refused k c) (lu.Done t) e f = cc
-lu-one (lu.Refused k c) (lu.Refused j d) e f = cc
+pub lu_one : (x y : LuAnswer) → lu_outcome x ≡ lu_outcome y → lu_column x ≡ lu_column y → x ≡ y
+lu_one (lu.Done s) (lu.Done t) e f = cc
+lu_one (lu.Done s) (lu.Refused k c) e f = cc
+lu_one (lu.Refused k c) (lu.Done t) e f = cc
+lu_one (lu.Refused k c) (lu.Refused j d) e f = cc
 
-pub solve-one : (x y : SolveAnswer) → solveOutcome x ≡ solveOutcome y → x ≡ y
-solve-one solve.Done solve.Done e = refl
-solve-one solve.Done (solve.Refused k) e = cc
-solve-one (solve.Refused k) solve.Done e = cc
-solve-one (solve.Refused k) (solve.Refused j) e = cc
+pub solve_one : (x y : SolveAnswer) → solve_outcome x ≡ solve_outcome y → x ≡ y
+solve_one solve.Done solve.Done e = refl
+solve_one solve.Done (solve.Refused k) e = cc
+solve_one (solve.Refused k) solve.Done e = cc
+solve_one (solve.Refused k) (solve.Refused j) e = cc
 
 -- what relates two values relates what is equal to them
 carried : {S : Type 0} (T : S → S → Type 0) {x x' y y' : S} → x ≡ y → x' ≡ y' → T y y' → T x x'
@@ -59,301 +59,301 @@ floats = rt_f (f_float binary64)
 abbrev places : RattleType
 places = rt_f (f_int w64)
 
-abbrev pub luParameters : List (ParamKind 3)
-luParameters = p_num w64 ∷ p_shr_s floats 0 tt ∷ p_mut_s floats 1 tt ∷ p_mut_s places 2 tt ∷ []
+abbrev pub lu_parameters : List (ParamKind 3)
+lu_parameters = p_num w64 ∷ p_shr_s floats 0 tt ∷ p_mut_s floats 1 tt ∷ p_mut_s places 2 tt ∷ []
 
-abbrev pub solveParameters : List (ParamKind 4)
-solveParameters = p_num w64 ∷ p_shr_s floats 0 tt ∷ p_shr_s places 1 tt ∷ p_shr_s floats 2 tt ∷ p_mut_s floats 3 tt ∷ []
+abbrev pub solve_parameters : List (ParamKind 4)
+solve_parameters = p_num w64 ∷ p_shr_s floats 0 tt ∷ p_shr_s places 1 tt ∷ p_shr_s floats 2 tt ∷ p_mut_s floats 3 tt ∷ []
 
-abbrev pub inverseParameters : List (ParamKind 3)
-inverseParameters = p_num w64 ∷ p_shr_s floats 0 tt ∷ p_shr_s places 1 tt ∷ p_mut_s floats 2 tt ∷ []
+abbrev pub inverse_parameters : List (ParamKind 3)
+inverse_parameters = p_num w64 ∷ p_shr_s floats 0 tt ∷ p_shr_s places 1 tt ∷ p_mut_s floats 2 tt ∷ []
 
-abbrev pub determinantParameters : List (ParamKind 2)
-determinantParameters = p_num w64 ∷ p_shr_s floats 0 tt ∷ p_shr_s places 1 tt ∷ p_num w64 ∷ []
+abbrev pub determinant_parameters : List (ParamKind 2)
+determinant_parameters = p_num w64 ∷ p_shr_s floats 0 tt ∷ p_shr_s places 1 tt ∷ p_num w64 ∷ []
 
 -- ---- lu(n, a, factors, order)
 
 module _ (r : ResultKind 3) (told : (κs : Lfts 3) → (res_t r κs).Denot → Outcome ℕ) (column : (κs : Lfts 3) → (res_t r κs).Denot → ℕ) where
   -- two calls whose sizes, lengths and real parts agree, at w floats a record, whatever the derivative parts and whatever the result's buffers held
-  abbrev pub LuNeverSteered : ℕ → Out 3 luParameters r → Type 0
+  abbrev pub LuNeverSteered : ℕ → Out 3 lu_parameters r → Type 0
   LuNeverSteered w post =
-      (κs κs' : Lfts 3) (a : Dens κs luParameters) (a' : Dens κs' luParameters) (x : (res_t r κs).Denot) (x' : (res_t r κs').Denot)
-      (v : Lasts (ended_of 3 luParameters r) κs a) (v' : Lasts (ended_of 3 luParameters r) κs' a') →
-      post κs a x (at_exit (ended_of 3 luParameters r) κs a v) → post κs' a' x' (at_exit (ended_of 3 luParameters r) κs' a' v') →
+      (κs κs' : Lfts 3) (a : Dens κs lu_parameters) (a' : Dens κs' lu_parameters) (x : (res_t r κs).Denot) (x' : (res_t r κs').Denot)
+      (v : Lasts (ended_of 3 lu_parameters r) κs a) (v' : Lasts (ended_of 3 lu_parameters r) κs' a') →
+      post κs a x (at_exit (ended_of 3 lu_parameters r) κs a v) → post κs' a' x' (at_exit (ended_of 3 lu_parameters r) κs' a' v') →
       a.0 ≡ a'.0 → Alike w a.1.0.now a'.1.0.now → length a.1.1.0.now ≡ length a'.1.1.0.now → length a.1.1.1.0.now ≡ length a'.1.1.1.0.now →
-      SameLu w (luAnswered (told κs x) (column κs x) v.1.1.0 v.1.1.1.0) (luAnswered (told κs' x') (column κs' x') v'.1.1.0 v'.1.1.1.0)
+      SameLu w (lu_answered (told κs x) (column κs x) v.1.1.0 v.1.1.1.0) (lu_answered (told κs' x') (column κs' x') v'.1.1.0 v'.1.1.1.0)
 
   -- a call that is done leaves a permutation of 0..n-1 in the order's buffer, with a swap count of its parity, at most n
-  abbrev pub LuLeavesOrder : Out 3 luParameters r → Type 0
+  abbrev pub LuLeavesOrder : Out 3 lu_parameters r → Type 0
   LuLeavesOrder post =
-      (κs : Lfts 3) (a : Dens κs luParameters) (x : (res_t r κs).Denot) (v : Lasts (ended_of 3 luParameters r) κs a) →
-      post κs a x (at_exit (ended_of 3 luParameters r) κs a v) → (swaps : ℕ) → told κs x ≡ value swaps → LeavesOrder a.0 v.1.1.1.0 swaps
+      (κs : Lfts 3) (a : Dens κs lu_parameters) (x : (res_t r κs).Denot) (v : Lasts (ended_of 3 lu_parameters r) κs a) →
+      post κs a x (at_exit (ended_of 3 lu_parameters r) κs a v) → (swaps : ℕ) → told κs x ≡ value swaps → LeavesOrder a.0 v.1.1.1.0 swaps
 
   -- every number below n occurs in it
-  abbrev pub LuEveryRow : Out 3 luParameters r → Type 0
+  abbrev pub LuEveryRow : Out 3 lu_parameters r → Type 0
   LuEveryRow post =
-      (κs : Lfts 3) (a : Dens κs luParameters) (x : (res_t r κs).Denot) (v : Lasts (ended_of 3 luParameters r) κs a) →
-      post κs a x (at_exit (ended_of 3 luParameters r) κs a v) → (swaps : ℕ) → told κs x ≡ value swaps →
+      (κs : Lfts 3) (a : Dens κs lu_parameters) (x : (res_t r κs).Denot) (v : Lasts (ended_of 3 lu_parameters r) κs a) →
+      post κs a x (at_exit (ended_of 3 lu_parameters r) κs a v) → (swaps : ℕ) → told κs x ≡ value swaps →
       (row : ℕ) → row < a.0 → (k : ℕ) × ((k < a.0) × (get_or v.1.1.1.0 k 0 ≡ row))
 
   -- two calls with the same size and input, and result's buffers of the same lengths, whatever those held
-  abbrev pub LuPreviousContents : Out 3 luParameters r → Type 0
+  abbrev pub LuPreviousContents : Out 3 lu_parameters r → Type 0
   LuPreviousContents post =
-      (κs κs' : Lfts 3) (a : Dens κs luParameters) (a' : Dens κs' luParameters) (x : (res_t r κs).Denot) (x' : (res_t r κs').Denot)
-      (v : Lasts (ended_of 3 luParameters r) κs a) (v' : Lasts (ended_of 3 luParameters r) κs' a') →
-      post κs a x (at_exit (ended_of 3 luParameters r) κs a v) → post κs' a' x' (at_exit (ended_of 3 luParameters r) κs' a' v') →
+      (κs κs' : Lfts 3) (a : Dens κs lu_parameters) (a' : Dens κs' lu_parameters) (x : (res_t r κs).Denot) (x' : (res_t r κs').Denot)
+      (v : Lasts (ended_of 3 lu_parameters r) κs a) (v' : Lasts (ended_of 3 lu_parameters r) κs' a') →
+      post κs a x (at_exit (ended_of 3 lu_parameters r) κs a v) → post κs' a' x' (at_exit (ended_of 3 lu_parameters r) κs' a' v') →
       a.0 ≡ a'.0 → a.1.0.now ≡ a'.1.0.now → length a.1.1.0.now ≡ length a'.1.1.0.now → length a.1.1.1.0.now ≡ length a'.1.1.1.0.now →
-      EqualLu (luAnswered (told κs x) (column κs x) v.1.1.0 v.1.1.1.0) (luAnswered (told κs' x') (column κs' x') v'.1.1.0 v'.1.1.1.0)
+      EqualLu (lu_answered (told κs x) (column κs x) v.1.1.0 v.1.1.1.0) (lu_answered (told κs' x') (column κs' x') v'.1.1.0 v'.1.1.1.0)
 
   -- a call that is refused by another number than 6 leaves both buffers as they were, with column 0
-  abbrev pub LuNothingWritten : Out 3 luParameters r → Type 0
+  abbrev pub LuNothingWritten : Out 3 lu_parameters r → Type 0
   LuNothingWritten post =
-      (κs : Lfts 3) (a : Dens κs luParameters) (x : (res_t r κs).Denot) (v : Lasts (ended_of 3 luParameters r) κs a) →
-      post κs a x (at_exit (ended_of 3 luParameters r) κs a v) → (number : ℕ) → (number ≡ 6 → ⊥) → told κs x ≡ refused number →
+      (κs : Lfts 3) (a : Dens κs lu_parameters) (x : (res_t r κs).Denot) (v : Lasts (ended_of 3 lu_parameters r) κs a) →
+      post κs a x (at_exit (ended_of 3 lu_parameters r) κs a v) → (number : ℕ) → (number ≡ 6 → ⊥) → told κs x ≡ refused number →
       (column κs x ≡ 0) × ((v.1.1.0 ≡ a.1.1.0.now) × (v.1.1.1.0 ≡ a.1.1.1.0.now))
 
   -- a call that is refused 6 leaves the n * n * w factors all +0.0 and the n numbers of the order all 0
-  abbrev pub LuZeros : ℕ → Out 3 luParameters r → Type 0
+  abbrev pub LuZeros : ℕ → Out 3 lu_parameters r → Type 0
   LuZeros w post =
-      (κs : Lfts 3) (a : Dens κs luParameters) (x : (res_t r κs).Denot) (v : Lasts (ended_of 3 luParameters r) κs a) →
-      post κs a x (at_exit (ended_of 3 luParameters r) κs a v) → told κs x ≡ refused refusal.singular →
+      (κs : Lfts 3) (a : Dens κs lu_parameters) (x : (res_t r κs).Denot) (v : Lasts (ended_of 3 lu_parameters r) κs a) →
+      post κs a x (at_exit (ended_of 3 lu_parameters r) κs a v) → told κs x ≡ refused refusal.singular →
       (v.1.1.0 ≡ replicate (a.0 * a.0 * w) float.zero) × (v.1.1.1.0 ≡ replicate a.0 0)
 
   module _ {R : Type 0} {A : Algebra R} {L : Layout R} (Q : Laws A L) where
-    abbrev LuPromise : Out 3 luParameters r
-    LuPromise κs a x s = luAnswered (told κs x) (column κs x) s.1.1.0.now s.1.1.1.0.now ≡ luLeft A L a.0 a.1.0.now a.1.1.0.now a.1.1.1.0.now
+    abbrev LuPromise : Out 3 lu_parameters r
+    LuPromise κs a x s = lu_answered (told κs x) (column κs x) s.1.1.0.now s.1.1.1.0.now ≡ lu_left A L a.0 a.1.0.now a.1.1.0.now a.1.1.1.0.now
 
-    pub lu-only-by : ((κs : Lfts 3) (x y : (res_t r κs).Denot) → told κs x ≡ told κs y → column κs x ≡ column κs y → x ≡ y) → (pre : In 3 luParameters) → Only 3 luParameters r pre LuPromise
-    lu-only-by one pre κs a x y v w h p q =
+    pub lu_only_by : ((κs : Lfts 3) (x y : (res_t r κs).Denot) → told κs x ≡ told κs y → column κs x ≡ column κs y → x ≡ y) → (pre : In 3 lu_parameters) → Only 3 lu_parameters r pre LuPromise
+    lu_only_by one pre κs a x y v w h p q =
         let e = p ∙ sym q in (
           one κs x y (ap (λ (l : LuLeft). l.answer) e) (ap (λ (l : LuLeft). l.column) e),
-          λ i. at_exit (ended_of 3 luParameters r) κs a (v.0, (v.1.0, (ap (λ (l : LuLeft). l.factors) e i, (ap (λ (l : LuLeft). l.order) e i, tt)))),
+          λ i. at_exit (ended_of 3 lu_parameters r) κs a (v.0, (v.1.0, (ap (λ (l : LuLeft). l.factors) e i, (ap (λ (l : LuLeft). l.order) e i, tt)))),
         )
 
-    pub lu-never-steered-by : LuNeverSteered L.width LuPromise
-    lu-never-steered-by κs κs' a a' x x' v v' p p' n alike f o =
-        carried (SameLu L.width) p (p' ∙ ap (λ (k : ℕ). luLeft A L k a'.1.0.now a'.1.1.0.now a'.1.1.1.0.now) (sym n))
-        (lu-same A L Q.lawful Q.agrees Q.real a.0 _ _ _ _ _ _ alike.long alike.real f o)
+    pub lu_never_steered_by : LuNeverSteered L.width LuPromise
+    lu_never_steered_by κs κs' a a' x x' v v' p p' n alike f o =
+        carried (SameLu L.width) p (p' ∙ ap (λ (k : ℕ). lu_left A L k a'.1.0.now a'.1.1.0.now a'.1.1.1.0.now) (sym n))
+        (lu_same A L Q.lawful Q.agrees Q.real a.0 _ _ _ _ _ _ alike.long alike.real f o)
 
-    pub leaves-order-by : LuLeavesOrder LuPromise
-    leaves-order-by κs a x v p swaps e =
+    pub leaves_order_by : LuLeavesOrder LuPromise
+    leaves_order_by κs a x v p swaps e =
         subst (λ (o : List ℕ). LeavesOrder a.0 o swaps) (sym (ap (λ (l : LuLeft). l.order) p))
-        (lu-leaves-order A L a.0 a.1.0.now a.1.1.0.now a.1.1.1.0.now swaps (sym (ap (λ (l : LuLeft). l.answer) p) ∙ e))
+        (lu_leaves_order A L a.0 a.1.0.now a.1.1.0.now a.1.1.1.0.now swaps (sym (ap (λ (l : LuLeft). l.answer) p) ∙ e))
 
-    pub every-row-by : LuEveryRow LuPromise
-    every-row-by κs a x v p swaps e row h = order-occurs a.0 v.1.1.1.0 (leaves-order-by κs a x v p swaps e).order row h
+    pub every_row_by : LuEveryRow LuPromise
+    every_row_by κs a x v p swaps e row h = order_occurs a.0 v.1.1.1.0 (leaves_order_by κs a x v p swaps e).order row h
 
-    pub lu-previous-contents-by : LuPreviousContents LuPromise
-    lu-previous-contents-by κs κs' a a' x x' v v' p p' n same f o =
-        carried EqualLu p (p' ∙ (λ i. luLeft A L (sym n i) (sym same i) a'.1.1.0.now a'.1.1.1.0.now)) (lu-equal A L a.0 a.1.0.now _ _ _ _ f o)
+    pub lu_previous_contents_by : LuPreviousContents LuPromise
+    lu_previous_contents_by κs κs' a a' x x' v v' p p' n same f o =
+        carried EqualLu p (p' ∙ (λ i. lu_left A L (sym n i) (sym same i) a'.1.1.0.now a'.1.1.1.0.now)) (lu_equal A L a.0 a.1.0.now _ _ _ _ f o)
 
-    pub lu-nothing-written-by : LuNothingWritten LuPromise
-    lu-nothing-written-by κs a x v p number six e =
-        let k = lu-kept A L a.0 a.1.0.now a.1.1.0.now a.1.1.1.0.now number six (sym (ap (λ (l : LuLeft). l.answer) p) ∙ e) in
+    pub lu_nothing_written_by : LuNothingWritten LuPromise
+    lu_nothing_written_by κs a x v p number six e =
+        let k = lu_kept A L a.0 a.1.0.now a.1.1.0.now a.1.1.1.0.now number six (sym (ap (λ (l : LuLeft). l.answer) p) ∙ e) in
         (ap (λ (l : LuLeft). l.column) p ∙ k.0, (ap (λ (l : LuLeft). l.factors) p ∙ k.1.0, ap (λ (l : LuLeft). l.order) p ∙ k.1.1))
 
-    pub lu-zeros-by : LuZeros L.width LuPromise
-    lu-zeros-by κs a x v p e =
-        let z = lu-zero A L a.0 a.1.0.now a.1.1.0.now a.1.1.1.0.now (sym (ap (λ (l : LuLeft). l.answer) p) ∙ e) in
+    pub lu_zeros_by : LuZeros L.width LuPromise
+    lu_zeros_by κs a x v p e =
+        let z = lu_zero A L a.0 a.1.0.now a.1.1.0.now a.1.1.1.0.now (sym (ap (λ (l : LuLeft). l.answer) p) ∙ e) in
         (ap (λ (l : LuLeft). l.factors) p ∙ z.0, ap (λ (l : LuLeft). l.order) p ∙ z.1)
 
     -- the factors that a call leaves when it is done
-    full_by : (κs : Lfts 3) (a : Dens κs luParameters) (x : (res_t r κs).Denot) (v : Lasts (ended_of 3 luParameters r) κs a) →
-        LuPromise κs a x (at_exit (ended_of 3 luParameters r) κs a v) → (swaps : ℕ) → told κs x ≡ value swaps → length v.1.1.0 ≡ a.0 * a.0 * L.width
+    full_by : (κs : Lfts 3) (a : Dens κs lu_parameters) (x : (res_t r κs).Denot) (v : Lasts (ended_of 3 lu_parameters r) κs a) →
+        LuPromise κs a x (at_exit (ended_of 3 lu_parameters r) κs a v) → (swaps : ℕ) → told κs x ≡ value swaps → length v.1.1.0 ≡ a.0 * a.0 * L.width
     full_by κs a x v p swaps e =
         ap (λ (l : LuLeft). length l.factors) p
-        ∙ lu-full A L Q.lawful a.0 a.1.0.now a.1.1.0.now a.1.1.1.0.now swaps (sym (ap (λ (l : LuLeft). l.answer) p) ∙ e)
+        ∙ lu_full A L Q.lawful a.0 a.1.0.now a.1.1.0.now a.1.1.1.0.now swaps (sym (ap (λ (l : LuLeft). l.answer) p) ∙ e)
 
 -- ---- solve(n, factors, order, b, x)
 
 module _ (r : ResultKind 4) (told : (κs : Lfts 4) → (res_t r κs).Denot → Outcome (Unit {0})) where
-  abbrev pub SolveNeverSteered : ℕ → Out 4 solveParameters r → Type 0
+  abbrev pub SolveNeverSteered : ℕ → Out 4 solve_parameters r → Type 0
   SolveNeverSteered w post =
-      (κs κs' : Lfts 4) (a : Dens κs solveParameters) (a' : Dens κs' solveParameters) (x : (res_t r κs).Denot) (x' : (res_t r κs').Denot)
-      (v : Lasts (ended_of 4 solveParameters r) κs a) (v' : Lasts (ended_of 4 solveParameters r) κs' a') →
-      post κs a x (at_exit (ended_of 4 solveParameters r) κs a v) → post κs' a' x' (at_exit (ended_of 4 solveParameters r) κs' a' v') →
+      (κs κs' : Lfts 4) (a : Dens κs solve_parameters) (a' : Dens κs' solve_parameters) (x : (res_t r κs).Denot) (x' : (res_t r κs').Denot)
+      (v : Lasts (ended_of 4 solve_parameters r) κs a) (v' : Lasts (ended_of 4 solve_parameters r) κs' a') →
+      post κs a x (at_exit (ended_of 4 solve_parameters r) κs a v) → post κs' a' x' (at_exit (ended_of 4 solve_parameters r) κs' a' v') →
       a.0 ≡ a'.0 → Alike w a.1.0.now a'.1.0.now → a.1.1.0.now ≡ a'.1.1.0.now → Alike w a.1.1.1.0.now a'.1.1.1.0.now →
       length a.1.1.1.1.0.now ≡ length a'.1.1.1.1.0.now →
-      SameSolve w (solveAnswered (told κs x) v.1.1.1.1.0) (solveAnswered (told κs' x') v'.1.1.1.1.0)
+      SameSolve w (solve_answered (told κs x) v.1.1.1.1.0) (solve_answered (told κs' x') v'.1.1.1.1.0)
 
-  abbrev pub SolvePreviousContents : Out 4 solveParameters r → Type 0
+  abbrev pub SolvePreviousContents : Out 4 solve_parameters r → Type 0
   SolvePreviousContents post =
-      (κs κs' : Lfts 4) (a : Dens κs solveParameters) (a' : Dens κs' solveParameters) (x : (res_t r κs).Denot) (x' : (res_t r κs').Denot)
-      (v : Lasts (ended_of 4 solveParameters r) κs a) (v' : Lasts (ended_of 4 solveParameters r) κs' a') →
-      post κs a x (at_exit (ended_of 4 solveParameters r) κs a v) → post κs' a' x' (at_exit (ended_of 4 solveParameters r) κs' a' v') →
+      (κs κs' : Lfts 4) (a : Dens κs solve_parameters) (a' : Dens κs' solve_parameters) (x : (res_t r κs).Denot) (x' : (res_t r κs').Denot)
+      (v : Lasts (ended_of 4 solve_parameters r) κs a) (v' : Lasts (ended_of 4 solve_parameters r) κs' a') →
+      post κs a x (at_exit (ended_of 4 solve_parameters r) κs a v) → post κs' a' x' (at_exit (ended_of 4 solve_parameters r) κs' a' v') →
       a.0 ≡ a'.0 → a.1.0.now ≡ a'.1.0.now → a.1.1.0.now ≡ a'.1.1.0.now → a.1.1.1.0.now ≡ a'.1.1.1.0.now →
       length a.1.1.1.1.0.now ≡ length a'.1.1.1.1.0.now →
-      EqualSolve (solveAnswered (told κs x) v.1.1.1.1.0) (solveAnswered (told κs' x') v'.1.1.1.1.0)
+      EqualSolve (solve_answered (told κs x) v.1.1.1.1.0) (solve_answered (told κs' x') v'.1.1.1.1.0)
 
   -- a call that is refused leaves the buffer as it was
-  abbrev pub SolveNothingWritten : Out 4 solveParameters r → Type 0
+  abbrev pub SolveNothingWritten : Out 4 solve_parameters r → Type 0
   SolveNothingWritten post =
-      (κs : Lfts 4) (a : Dens κs solveParameters) (x : (res_t r κs).Denot) (v : Lasts (ended_of 4 solveParameters r) κs a) →
-      post κs a x (at_exit (ended_of 4 solveParameters r) κs a v) → (number : ℕ) → told κs x ≡ refused number → v.1.1.1.1.0 ≡ a.1.1.1.1.0.now
+      (κs : Lfts 4) (a : Dens κs solve_parameters) (x : (res_t r κs).Denot) (v : Lasts (ended_of 4 solve_parameters r) κs a) →
+      post κs a x (at_exit (ended_of 4 solve_parameters r) κs a v) → (number : ℕ) → told κs x ≡ refused number → v.1.1.1.1.0 ≡ a.1.1.1.1.0.now
 
   module _ {R : Type 0} {A : Algebra R} {L : Layout R} (Q : Laws A L) where
-    abbrev SolvePromise : Out 4 solveParameters r
-    SolvePromise κs a x s = solveAnswered (told κs x) s.1.1.1.1.0.now ≡ solveLeft A L a.0 a.1.0.now a.1.1.0.now a.1.1.1.0.now a.1.1.1.1.0.now
+    abbrev SolvePromise : Out 4 solve_parameters r
+    SolvePromise κs a x s = solve_answered (told κs x) s.1.1.1.1.0.now ≡ solve_left A L a.0 a.1.0.now a.1.1.0.now a.1.1.1.0.now a.1.1.1.1.0.now
 
-    pub solve-only-by : ((κs : Lfts 4) (x y : (res_t r κs).Denot) → told κs x ≡ told κs y → x ≡ y) → (pre : In 4 solveParameters) → Only 4 solveParameters r pre SolvePromise
-    solve-only-by one pre κs a x y v w h p q =
+    pub solve_only_by : ((κs : Lfts 4) (x y : (res_t r κs).Denot) → told κs x ≡ told κs y → x ≡ y) → (pre : In 4 solve_parameters) → Only 4 solve_parameters r pre SolvePromise
+    solve_only_by one pre κs a x y v w h p q =
         let e = p ∙ sym q in (
           one κs x y (ap (λ (l : SolveLeft). l.answer) e),
-          λ i. at_exit (ended_of 4 solveParameters r) κs a (v.0, (v.1.0, (v.1.1.0, (v.1.1.1.0, (ap (λ (l : SolveLeft). l.result) e i, tt))))),
+          λ i. at_exit (ended_of 4 solve_parameters r) κs a (v.0, (v.1.0, (v.1.1.0, (v.1.1.1.0, (ap (λ (l : SolveLeft). l.result) e i, tt))))),
         )
 
-    pub solve-never-steered-by : SolveNeverSteered L.width SolvePromise
-    solve-never-steered-by κs κs' a a' x x' v v' p p' n alike o b f =
-        carried (SameSolve L.width) p (p' ∙ (λ i. solveLeft A L (sym n i) a'.1.0.now (sym o i) a'.1.1.1.0.now a'.1.1.1.1.0.now))
-        (solve-same A L Q.lawful Q.agrees Q.real a.0 _ _ _ _ _ _ _ alike.long alike.real b.long b.real f)
+    pub solve_never_steered_by : SolveNeverSteered L.width SolvePromise
+    solve_never_steered_by κs κs' a a' x x' v v' p p' n alike o b f =
+        carried (SameSolve L.width) p (p' ∙ (λ i. solve_left A L (sym n i) a'.1.0.now (sym o i) a'.1.1.1.0.now a'.1.1.1.1.0.now))
+        (solve_same A L Q.lawful Q.agrees Q.real a.0 _ _ _ _ _ _ _ alike.long alike.real b.long b.real f)
 
-    pub solve-previous-contents-by : SolvePreviousContents SolvePromise
-    solve-previous-contents-by κs κs' a a' x x' v v' p p' n f o b h =
-        carried EqualSolve p (p' ∙ (λ i. solveLeft A L (sym n i) (sym f i) (sym o i) (sym b i) a'.1.1.1.1.0.now)) (solve-equal A L a.0 a.1.0.now a.1.1.0.now a.1.1.1.0.now _ _ h)
+    pub solve_previous_contents_by : SolvePreviousContents SolvePromise
+    solve_previous_contents_by κs κs' a a' x x' v v' p p' n f o b h =
+        carried EqualSolve p (p' ∙ (λ i. solve_left A L (sym n i) (sym f i) (sym o i) (sym b i) a'.1.1.1.1.0.now)) (solve_equal A L a.0 a.1.0.now a.1.1.0.now a.1.1.1.0.now _ _ h)
 
-    pub solve-nothing-written-by : SolveNothingWritten SolvePromise
-    solve-nothing-written-by κs a x v p number e =
+    pub solve_nothing_written_by : SolveNothingWritten SolvePromise
+    solve_nothing_written_by κs a x v p number e =
         ap (λ (l : SolveLeft). l.result) p
-        ∙ solve-kept A L a.0 a.1.0.now a.1.1.0.now a.1.1.1.0.now a.1.1.1.1.0.now number (sym (ap (λ (l : SolveLeft). l.answer) p) ∙ e)
+        ∙ solve_kept A L a.0 a.1.0.now a.1.1.0.now a.1.1.1.0.now a.1.1.1.1.0.now number (sym (ap (λ (l : SolveLeft). l.answer) p) ∙ e)
 
 -- ---- inverse(n, factors, order, out)
 
 module _ (r : ResultKind 3) (told : (κs : Lfts 3) → (res_t r κs).Denot → Outcome (Unit {0})) where
-  abbrev pub InverseNeverSteered : ℕ → Out 3 inverseParameters r → Type 0
+  abbrev pub InverseNeverSteered : ℕ → Out 3 inverse_parameters r → Type 0
   InverseNeverSteered w post =
-      (κs κs' : Lfts 3) (a : Dens κs inverseParameters) (a' : Dens κs' inverseParameters) (x : (res_t r κs).Denot) (x' : (res_t r κs').Denot)
-      (v : Lasts (ended_of 3 inverseParameters r) κs a) (v' : Lasts (ended_of 3 inverseParameters r) κs' a') →
-      post κs a x (at_exit (ended_of 3 inverseParameters r) κs a v) → post κs' a' x' (at_exit (ended_of 3 inverseParameters r) κs' a' v') →
+      (κs κs' : Lfts 3) (a : Dens κs inverse_parameters) (a' : Dens κs' inverse_parameters) (x : (res_t r κs).Denot) (x' : (res_t r κs').Denot)
+      (v : Lasts (ended_of 3 inverse_parameters r) κs a) (v' : Lasts (ended_of 3 inverse_parameters r) κs' a') →
+      post κs a x (at_exit (ended_of 3 inverse_parameters r) κs a v) → post κs' a' x' (at_exit (ended_of 3 inverse_parameters r) κs' a' v') →
       a.0 ≡ a'.0 → Alike w a.1.0.now a'.1.0.now → a.1.1.0.now ≡ a'.1.1.0.now → length a.1.1.1.0.now ≡ length a'.1.1.1.0.now →
-      SameSolve w (solveAnswered (told κs x) v.1.1.1.0) (solveAnswered (told κs' x') v'.1.1.1.0)
+      SameSolve w (solve_answered (told κs x) v.1.1.1.0) (solve_answered (told κs' x') v'.1.1.1.0)
 
-  abbrev pub InversePreviousContents : Out 3 inverseParameters r → Type 0
+  abbrev pub InversePreviousContents : Out 3 inverse_parameters r → Type 0
   InversePreviousContents post =
-      (κs κs' : Lfts 3) (a : Dens κs inverseParameters) (a' : Dens κs' inverseParameters) (x : (res_t r κs).Denot) (x' : (res_t r κs').Denot)
-      (v : Lasts (ended_of 3 inverseParameters r) κs a) (v' : Lasts (ended_of 3 inverseParameters r) κs' a') →
-      post κs a x (at_exit (ended_of 3 inverseParameters r) κs a v) → post κs' a' x' (at_exit (ended_of 3 inverseParameters r) κs' a' v') →
+      (κs κs' : Lfts 3) (a : Dens κs inverse_parameters) (a' : Dens κs' inverse_parameters) (x : (res_t r κs).Denot) (x' : (res_t r κs').Denot)
+      (v : Lasts (ended_of 3 inverse_parameters r) κs a) (v' : Lasts (ended_of 3 inverse_parameters r) κs' a') →
+      post κs a x (at_exit (ended_of 3 inverse_parameters r) κs a v) → post κs' a' x' (at_exit (ended_of 3 inverse_parameters r) κs' a' v') →
       a.0 ≡ a'.0 → a.1.0.now ≡ a'.1.0.now → a.1.1.0.now ≡ a'.1.1.0.now → length a.1.1.1.0.now ≡ length a'.1.1.1.0.now →
-      EqualSolve (solveAnswered (told κs x) v.1.1.1.0) (solveAnswered (told κs' x') v'.1.1.1.0)
+      EqualSolve (solve_answered (told κs x) v.1.1.1.0) (solve_answered (told κs' x') v'.1.1.1.0)
 
-  abbrev pub InverseNothingWritten : Out 3 inverseParameters r → Type 0
+  abbrev pub InverseNothingWritten : Out 3 inverse_parameters r → Type 0
   InverseNothingWritten post =
-      (κs : Lfts 3) (a : Dens κs inverseParameters) (x : (res_t r κs).Denot) (v : Lasts (ended_of 3 inverseParameters r) κs a) →
-      post κs a x (at_exit (ended_of 3 inverseParameters r) κs a v) → (number : ℕ) → told κs x ≡ refused number → v.1.1.1.0 ≡ a.1.1.1.0.now
+      (κs : Lfts 3) (a : Dens κs inverse_parameters) (x : (res_t r κs).Denot) (v : Lasts (ended_of 3 inverse_parameters r) κs a) →
+      post κs a x (at_exit (ended_of 3 inverse_parameters r) κs a v) → (number : ℕ) → told κs x ≡ refused number → v.1.1.1.0 ≡ a.1.1.1.0.now
 
   module _ {R : Type 0} {A : Algebra R} {L : Layout R} (Q : Laws A L) where
-    abbrev InversePromise : Out 3 inverseParameters r
-    InversePromise κs a x s = solveAnswered (told κs x) s.1.1.1.0.now ≡ inverseLeft A L a.0 a.1.0.now a.1.1.0.now a.1.1.1.0.now
+    abbrev InversePromise : Out 3 inverse_parameters r
+    InversePromise κs a x s = solve_answered (told κs x) s.1.1.1.0.now ≡ inverse_left A L a.0 a.1.0.now a.1.1.0.now a.1.1.1.0.now
 
-    pub inverse-only-by : ((κs : Lfts 3) (x y : (res_t r κs).Denot) → told κs x ≡ told κs y → x ≡ y) → (pre : In 3 inverseParameters) → Only 3 inverseParameters r pre InversePromise
-    inverse-only-by one pre κs a x y v w h p q =
+    pub inverse_only_by : ((κs : Lfts 3) (x y : (res_t r κs).Denot) → told κs x ≡ told κs y → x ≡ y) → (pre : In 3 inverse_parameters) → Only 3 inverse_parameters r pre InversePromise
+    inverse_only_by one pre κs a x y v w h p q =
         let e = p ∙ sym q in (
           one κs x y (ap (λ (l : SolveLeft). l.answer) e),
-          λ i. at_exit (ended_of 3 inverseParameters r) κs a (v.0, (v.1.0, (v.1.1.0, (ap (λ (l : SolveLeft). l.result) e i, tt)))),
+          λ i. at_exit (ended_of 3 inverse_parameters r) κs a (v.0, (v.1.0, (v.1.1.0, (ap (λ (l : SolveLeft). l.result) e i, tt)))),
         )
 
-    pub inverse-never-steered-by : InverseNeverSteered L.width InversePromise
-    inverse-never-steered-by κs κs' a a' x x' v v' p p' n alike o f =
-        carried (SameSolve L.width) p (p' ∙ (λ i. inverseLeft A L (sym n i) a'.1.0.now (sym o i) a'.1.1.1.0.now))
-        (inverse-same A L Q.lawful Q.agrees Q.real a.0 _ _ _ _ _ alike.long alike.real f)
+    pub inverse_never_steered_by : InverseNeverSteered L.width InversePromise
+    inverse_never_steered_by κs κs' a a' x x' v v' p p' n alike o f =
+        carried (SameSolve L.width) p (p' ∙ (λ i. inverse_left A L (sym n i) a'.1.0.now (sym o i) a'.1.1.1.0.now))
+        (inverse_same A L Q.lawful Q.agrees Q.real a.0 _ _ _ _ _ alike.long alike.real f)
 
-    pub inverse-previous-contents-by : InversePreviousContents InversePromise
-    inverse-previous-contents-by κs κs' a a' x x' v v' p p' n f o h =
-        carried EqualSolve p (p' ∙ (λ i. inverseLeft A L (sym n i) (sym f i) (sym o i) a'.1.1.1.0.now)) (inverse-equal A L a.0 a.1.0.now a.1.1.0.now _ _ h)
+    pub inverse_previous_contents_by : InversePreviousContents InversePromise
+    inverse_previous_contents_by κs κs' a a' x x' v v' p p' n f o h =
+        carried EqualSolve p (p' ∙ (λ i. inverse_left A L (sym n i) (sym f i) (sym o i) a'.1.1.1.0.now)) (inverse_equal A L a.0 a.1.0.now a.1.1.0.now _ _ h)
 
-    pub inverse-nothing-written-by : InverseNothingWritten InversePromise
-    inverse-nothing-written-by κs a x v p number e =
+    pub inverse_nothing_written_by : InverseNothingWritten InversePromise
+    inverse_nothing_written_by κs a x v p number e =
         ap (λ (l : SolveLeft). l.result) p
-        ∙ inverse-kept A L a.0 a.1.0.now a.1.1.0.now a.1.1.1.0.now number (sym (ap (λ (l : SolveLeft). l.answer) p) ∙ e)
+        ∙ inverse_kept A L a.0 a.1.0.now a.1.1.0.now a.1.1.1.0.now number (sym (ap (λ (l : SolveLeft). l.answer) p) ∙ e)
 
 -- ---- determinant(n, factors, order, swaps)
 
 module _ {R : Type 0} (A : Algebra R) (r : ResultKind 2) (told : (κs : Lfts 2) → (res_t r κs).Denot → Outcome R) where
-  abbrev pub DeterminantNeverSteered : ℕ → Out 2 determinantParameters r → Type 0
+  abbrev pub DeterminantNeverSteered : ℕ → Out 2 determinant_parameters r → Type 0
   DeterminantNeverSteered w post =
-      (κs κs' : Lfts 2) (a : Dens κs determinantParameters) (a' : Dens κs' determinantParameters) (x : (res_t r κs).Denot) (x' : (res_t r κs').Denot)
-      (v : Lasts (ended_of 2 determinantParameters r) κs a) (v' : Lasts (ended_of 2 determinantParameters r) κs' a') →
-      post κs a x (at_exit (ended_of 2 determinantParameters r) κs a v) → post κs' a' x' (at_exit (ended_of 2 determinantParameters r) κs' a' v') →
+      (κs κs' : Lfts 2) (a : Dens κs determinant_parameters) (a' : Dens κs' determinant_parameters) (x : (res_t r κs).Denot) (x' : (res_t r κs').Denot)
+      (v : Lasts (ended_of 2 determinant_parameters r) κs a) (v' : Lasts (ended_of 2 determinant_parameters r) κs' a') →
+      post κs a x (at_exit (ended_of 2 determinant_parameters r) κs a v) → post κs' a' x' (at_exit (ended_of 2 determinant_parameters r) κs' a' v') →
       a.0 ≡ a'.0 → Alike w a.1.0.now a'.1.0.now → a.1.1.0.now ≡ a'.1.1.0.now → a.1.1.1.0 ≡ a'.1.1.1.0 →
-      mapOutcome A.re (told κs x) ≡ mapOutcome A.re (told κs' x')
+      map_outcome A.re (told κs x) ≡ map_outcome A.re (told κs' x')
 
   -- no buffer is written: two calls with the same inputs answer the same
-  abbrev pub DeterminantSameInputs : Out 2 determinantParameters r → Type 0
+  abbrev pub DeterminantSameInputs : Out 2 determinant_parameters r → Type 0
   DeterminantSameInputs post =
-      (κs κs' : Lfts 2) (a : Dens κs determinantParameters) (a' : Dens κs' determinantParameters) (x : (res_t r κs).Denot) (x' : (res_t r κs').Denot)
-      (v : Lasts (ended_of 2 determinantParameters r) κs a) (v' : Lasts (ended_of 2 determinantParameters r) κs' a') →
-      post κs a x (at_exit (ended_of 2 determinantParameters r) κs a v) → post κs' a' x' (at_exit (ended_of 2 determinantParameters r) κs' a' v') →
+      (κs κs' : Lfts 2) (a : Dens κs determinant_parameters) (a' : Dens κs' determinant_parameters) (x : (res_t r κs).Denot) (x' : (res_t r κs').Denot)
+      (v : Lasts (ended_of 2 determinant_parameters r) κs a) (v' : Lasts (ended_of 2 determinant_parameters r) κs' a') →
+      post κs a x (at_exit (ended_of 2 determinant_parameters r) κs a v) → post κs' a' x' (at_exit (ended_of 2 determinant_parameters r) κs' a' v') →
       a.0 ≡ a'.0 → a.1.0.now ≡ a'.1.0.now → a.1.1.0.now ≡ a'.1.1.0.now → a.1.1.1.0 ≡ a'.1.1.1.0 → told κs x ≡ told κs' x'
 
 module _ {R : Type 0} {A : Algebra R} {L : Layout R} (Q : Laws A L) (r : ResultKind 2) (told : (κs : Lfts 2) → (res_t r κs).Denot → Outcome R) where
-  abbrev DeterminantPromise : Out 2 determinantParameters r
-  DeterminantPromise κs a x s = told κs x ≡ determinantLeft A L a.0 a.1.0.now a.1.1.0.now a.1.1.1.0
+  abbrev DeterminantPromise : Out 2 determinant_parameters r
+  DeterminantPromise κs a x s = told κs x ≡ determinant_left A L a.0 a.1.0.now a.1.1.0.now a.1.1.1.0
 
-  pub determinant-only-by : ((κs : Lfts 2) (x y : (res_t r κs).Denot) → told κs x ≡ told κs y → x ≡ y) → (pre : In 2 determinantParameters) → Only 2 determinantParameters r pre DeterminantPromise
-  determinant-only-by one pre κs a x y v w h p q = (one κs x y (p ∙ sym q), refl)
+  pub determinant_only_by : ((κs : Lfts 2) (x y : (res_t r κs).Denot) → told κs x ≡ told κs y → x ≡ y) → (pre : In 2 determinant_parameters) → Only 2 determinant_parameters r pre DeterminantPromise
+  determinant_only_by one pre κs a x y v w h p q = (one κs x y (p ∙ sym q), refl)
 
-  pub determinant-never-steered-by : DeterminantNeverSteered A r told L.width DeterminantPromise
-  determinant-never-steered-by κs κs' a a' x x' v v' p p' n alike o s =
-      ap (mapOutcome A.re) p
-      ∙ determinant-same A L Q.lawful Q.agrees Q.real a.0 _ _ _ _ alike.long alike.real
-      ∙ sym (ap (mapOutcome A.re) (p' ∙ (λ i. determinantLeft A L (sym n i) a'.1.0.now (sym o i) (sym s i))))
+  pub determinant_never_steered_by : DeterminantNeverSteered A r told L.width DeterminantPromise
+  determinant_never_steered_by κs κs' a a' x x' v v' p p' n alike o s =
+      ap (map_outcome A.re) p
+      ∙ determinant_same A L Q.lawful Q.agrees Q.real a.0 _ _ _ _ alike.long alike.real
+      ∙ sym (ap (map_outcome A.re) (p' ∙ (λ i. determinant_left A L (sym n i) a'.1.0.now (sym o i) (sym s i))))
 
-  pub determinant-same-inputs-by : DeterminantSameInputs A r told DeterminantPromise
-  determinant-same-inputs-by κs κs' a a' x x' v v' p p' n f o s = p ∙ (λ i. determinantLeft A L (n i) (f i) (o i) (s i)) ∙ sym p'
+  pub determinant_same_inputs_by : DeterminantSameInputs A r told DeterminantPromise
+  determinant_same_inputs_by κs κs' a a' x x' v v' p p' n f o s = p ∙ (λ i. determinant_left A L (n i) (f i) (o i) (s i)) ∙ sym p'
 
 -- ---- 7 and 8 never refuse what LU left: a call with the factors and the order of a call of LU that is done, and its swap count, is not refused
 
 module _ (r : ResultKind 3) (told : (κs : Lfts 3) → (res_t r κs).Denot → Outcome ℕ) (column : (κs : Lfts 3) → (res_t r κs).Denot → ℕ) where
   -- κs, a, x, v: a call of LU that is done with so many swaps
-  abbrev pub LuDone : Out 3 luParameters r → (κs : Lfts 3) (a : Dens κs luParameters) → Lasts (ended_of 3 luParameters r) κs a → (res_t r κs).Denot → ℕ → Type 0
-  LuDone post κs a v x swaps = post κs a x (at_exit (ended_of 3 luParameters r) κs a v) × (told κs x ≡ value swaps)
+  abbrev pub LuDone : Out 3 lu_parameters r → (κs : Lfts 3) (a : Dens κs lu_parameters) → Lasts (ended_of 3 lu_parameters r) κs a → (res_t r κs).Denot → ℕ → Type 0
+  LuDone post κs a v x swaps = post κs a x (at_exit (ended_of 3 lu_parameters r) κs a v) × (told κs x ≡ value swaps)
 
   module _ (r' : ResultKind 4) (told' : (κs : Lfts 4) → (res_t r' κs).Denot → Outcome (Unit {0})) where
     -- solve with right side and x of the lengths wanted is done
-    abbrev pub SolveAfterLu : ℕ → Out 3 luParameters r → Out 4 solveParameters r' → Type 0
+    abbrev pub SolveAfterLu : ℕ → Out 3 lu_parameters r → Out 4 solve_parameters r' → Type 0
     SolveAfterLu w post post' =
-        (κs : Lfts 3) (a : Dens κs luParameters) (x : (res_t r κs).Denot) (v : Lasts (ended_of 3 luParameters r) κs a) (swaps : ℕ) → LuDone post κs a v x swaps →
-        (κs' : Lfts 4) (a' : Dens κs' solveParameters) (x' : (res_t r' κs').Denot) (v' : Lasts (ended_of 4 solveParameters r') κs' a') →
-        post' κs' a' x' (at_exit (ended_of 4 solveParameters r') κs' a' v') →
+        (κs : Lfts 3) (a : Dens κs lu_parameters) (x : (res_t r κs).Denot) (v : Lasts (ended_of 3 lu_parameters r) κs a) (swaps : ℕ) → LuDone post κs a v x swaps →
+        (κs' : Lfts 4) (a' : Dens κs' solve_parameters) (x' : (res_t r' κs').Denot) (v' : Lasts (ended_of 4 solve_parameters r') κs' a') →
+        post' κs' a' x' (at_exit (ended_of 4 solve_parameters r') κs' a' v') →
         a'.0 ≡ a.0 → a'.1.0.now ≡ v.1.1.0 → a'.1.1.0.now ≡ v.1.1.1.0 → length a'.1.1.1.0.now ≡ a.0 * w → length a'.1.1.1.1.0.now ≡ a.0 * w →
         told' κs' x' ≡ value tt
 
     module _ {R : Type 0} {A : Algebra R} {L : Layout R} (Q : Laws A L) where
-      pub solve-after-lu-by : SolveAfterLu L.width (LuPromise r told column Q) (SolvePromise r' told' Q)
-      solve-after-lu-by κs a x v swaps done κs' a' x' v' p' n f o b h =
-          let l = leaves-order-by r told column Q κs a x v done.0 swaps done.1 in
-          let z = solve-accepts L.width a.0 v.1.1.1.0 swaps l (length v.1.1.0) _ _ (full_by r told column Q κs a x v done.0 swaps done.1) b h in
-          ap (λ (s : SolveLeft). s.answer) (p' ∙ (λ i. solveLeft A L (n i) (f i) (o i) a'.1.1.1.0.now a'.1.1.1.1.0.now) ∙ sym (solve-done A L a.0 v.1.1.0 v.1.1.1.0 _ _ z))
+      pub solve_after_lu_by : SolveAfterLu L.width (LuPromise r told column Q) (SolvePromise r' told' Q)
+      solve_after_lu_by κs a x v swaps done κs' a' x' v' p' n f o b h =
+          let l = leaves_order_by r told column Q κs a x v done.0 swaps done.1 in
+          let z = solve_accepts L.width a.0 v.1.1.1.0 swaps l (length v.1.1.0) _ _ (full_by r told column Q κs a x v done.0 swaps done.1) b h in
+          ap (λ (s : SolveLeft). s.answer) (p' ∙ (λ i. solve_left A L (n i) (f i) (o i) a'.1.1.1.0.now a'.1.1.1.1.0.now) ∙ sym (solve_done A L a.0 v.1.1.0 v.1.1.1.0 _ _ z))
 
   module _ (r' : ResultKind 3) (told' : (κs : Lfts 3) → (res_t r' κs).Denot → Outcome (Unit {0})) where
     -- inverse with an out of the length wanted is done
-    abbrev pub InverseAfterLu : ℕ → Out 3 luParameters r → Out 3 inverseParameters r' → Type 0
+    abbrev pub InverseAfterLu : ℕ → Out 3 lu_parameters r → Out 3 inverse_parameters r' → Type 0
     InverseAfterLu w post post' =
-        (κs : Lfts 3) (a : Dens κs luParameters) (x : (res_t r κs).Denot) (v : Lasts (ended_of 3 luParameters r) κs a) (swaps : ℕ) → LuDone post κs a v x swaps →
-        (κs' : Lfts 3) (a' : Dens κs' inverseParameters) (x' : (res_t r' κs').Denot) (v' : Lasts (ended_of 3 inverseParameters r') κs' a') →
-        post' κs' a' x' (at_exit (ended_of 3 inverseParameters r') κs' a' v') →
+        (κs : Lfts 3) (a : Dens κs lu_parameters) (x : (res_t r κs).Denot) (v : Lasts (ended_of 3 lu_parameters r) κs a) (swaps : ℕ) → LuDone post κs a v x swaps →
+        (κs' : Lfts 3) (a' : Dens κs' inverse_parameters) (x' : (res_t r' κs').Denot) (v' : Lasts (ended_of 3 inverse_parameters r') κs' a') →
+        post' κs' a' x' (at_exit (ended_of 3 inverse_parameters r') κs' a' v') →
         a'.0 ≡ a.0 → a'.1.0.now ≡ v.1.1.0 → a'.1.1.0.now ≡ v.1.1.1.0 → length a'.1.1.1.0.now ≡ a.0 * a.0 * w →
         told' κs' x' ≡ value tt
 
     module _ {R : Type 0} {A : Algebra R} {L : Layout R} (Q : Laws A L) where
-      pub inverse-after-lu-by : InverseAfterLu L.width (LuPromise r told column Q) (InversePromise r' told' Q)
-      inverse-after-lu-by κs a x v swaps done κs' a' x' v' p' n f o h =
-          let l = leaves-order-by r told column Q κs a x v done.0 swaps done.1 in
-          let z = inverse-accepts L.width a.0 v.1.1.1.0 swaps l (length v.1.1.0) _ (full_by r told column Q κs a x v done.0 swaps done.1) h in
-          ap (λ (s : SolveLeft). s.answer) (p' ∙ (λ i. inverseLeft A L (n i) (f i) (o i) a'.1.1.1.0.now) ∙ sym (inverse-done A L a.0 v.1.1.0 v.1.1.1.0 _ z))
+      pub inverse_after_lu_by : InverseAfterLu L.width (LuPromise r told column Q) (InversePromise r' told' Q)
+      inverse_after_lu_by κs a x v swaps done κs' a' x' v' p' n f o h =
+          let l = leaves_order_by r told column Q κs a x v done.0 swaps done.1 in
+          let z = inverse_accepts L.width a.0 v.1.1.1.0 swaps l (length v.1.1.0) _ (full_by r told column Q κs a x v done.0 swaps done.1) h in
+          ap (λ (s : SolveLeft). s.answer) (p' ∙ (λ i. inverse_left A L (n i) (f i) (o i) a'.1.1.1.0.now) ∙ sym (inverse_done A L a.0 v.1.1.0 v.1.1.1.0 _ z))
 
   module _ {R : Type 0} (r' : ResultKind 2) (told' : (κs : Lfts 2) → (res_t r' κs).Denot → Outcome R) where
     -- determinant with the swap count gives a value
-    abbrev pub DeterminantAfterLu : Out 3 luParameters r → Out 2 determinantParameters r' → Type 0
+    abbrev pub DeterminantAfterLu : Out 3 lu_parameters r → Out 2 determinant_parameters r' → Type 0
     DeterminantAfterLu post post' =
-        (κs : Lfts 3) (a : Dens κs luParameters) (x : (res_t r κs).Denot) (v : Lasts (ended_of 3 luParameters r) κs a) (swaps : ℕ) → LuDone post κs a v x swaps →
-        (κs' : Lfts 2) (a' : Dens κs' determinantParameters) (x' : (res_t r' κs').Denot) (v' : Lasts (ended_of 2 determinantParameters r') κs' a') →
-        post' κs' a' x' (at_exit (ended_of 2 determinantParameters r') κs' a' v') →
+        (κs : Lfts 3) (a : Dens κs lu_parameters) (x : (res_t r κs).Denot) (v : Lasts (ended_of 3 lu_parameters r) κs a) (swaps : ℕ) → LuDone post κs a v x swaps →
+        (κs' : Lfts 2) (a' : Dens κs' determinant_parameters) (x' : (res_t r' κs').Denot) (v' : Lasts (ended_of 2 determinant_parameters r') κs' a') →
+        post' κs' a' x' (at_exit (ended_of 2 determinant_parameters r') κs' a' v') →
         a'.0 ≡ a.0 → a'.1.0.now ≡ v.1.1.0 → a'.1.1.0.now ≡ v.1.1.1.0 → a'.1.1.1.0 ≡ swaps →
         (d : R) × (told' κs' x' ≡ value d)
 
     module _ {A : Algebra R} {L : Layout R} (Q : Laws A L) where
-      pub determinant-after-lu-by : DeterminantAfterLu (LuPromise r told column Q) (DeterminantPromise Q r' told')
-      determinant-after-lu-by κs a x v swaps done κs' a' x' v' p' n f o s =
-          let l = leaves-order-by r told column Q κs a x v done.0 swaps done.1 in
-          let z = determinant-accepts L.width a.0 v.1.1.1.0 swaps l (length v.1.1.0) (full_by r told column Q κs a x v done.0 swaps done.1) in
-          (determinantOf A a.0 (decode L v.1.1.0) swaps, p' ∙ (λ i. determinantLeft A L (n i) (f i) (o i) (s i)) ∙ sym (determinant-done A L a.0 v.1.1.0 v.1.1.1.0 swaps z))
+      pub determinant_after_lu_by : DeterminantAfterLu (LuPromise r told column Q) (DeterminantPromise Q r' told')
+      determinant_after_lu_by κs a x v swaps done κs' a' x' v' p' n f o s =
+          let l = leaves_order_by r told column Q κs a x v done.0 swaps done.1 in
+          let z = determinant_accepts L.width a.0 v.1.1.1.0 swaps l (length v.1.1.0) (full_by r told column Q κs a x v done.0 swaps done.1) in
+          (determinant_of A a.0 (decode L v.1.1.0) swaps, p' ∙ (λ i. determinant_left A L (n i) (f i) (o i) (s i)) ∙ sym (determinant_done A L a.0 v.1.1.0 v.1.1.1.0 swaps z))

@@ -11,35 +11,35 @@ use Rattle.algebra.specs.Algebra.{Algebra}
 use Rattle.algebra.specs.Flat.{Layout, decode}
 use Rattle.algebra.specs.Loop.{upto}
 use Rattle.algebra.specs.Outcome.{value, refused}
-use Rattle.algebra.proofs.Flat.{tabulate-length}
-use Rattle.algebra.proofs.Loop.{upto_turn, upto-end}
+use Rattle.algebra.proofs.Flat.{tabulate_length}
+use Rattle.algebra.proofs.Loop.{upto_turn, upto_end}
 use Rattle.algebra.proofs.Laws.{Laws}
-use Rattle.matrices.specs.Entries.{luAnswered, luFinish}
-use Rattle.matrices.specs.Lu.{going, reduce, reduceRun, column, countUp, luOf, bringPivotFlat}
+use Rattle.matrices.specs.Entries.{lu_answered, lu_finish}
+use Rattle.matrices.specs.Lu.{going, reduce, reduce_run, column, count_up, lu_of, bring_pivot_flat}
 use Rattle.matrices.specs.Matrix.{Square}
-use Rattle.matrices.specs.RunAfter.{runAfter, swapsOf}
+use Rattle.matrices.specs.RunAfter.{run_after, swaps_of}
 use Rattle.matrices.specs.declared.AfterColumn.{AfterColumn}
 use Rattle.matrices.specs.declared.AfterColumn.TheVariants.{Singular, Going}
-use Rattle.matrices.proofs.Answers.{finish-done, finish-singular}
-use Rattle.matrices.proofs.Lu.{run-stops}
-use Rattle.matrices.proofs.RowsOfRecords.{column-by}
+use Rattle.matrices.proofs.Answers.{finish_done, finish_singular}
+use Rattle.matrices.proofs.Lu.{run_stops}
+use Rattle.matrices.proofs.RowsOfRecords.{column_by}
 
 module _ {R : Type 0} {A : Algebra R} {L : Layout R} (Q : Laws A L) where
   -- ---- a column: what the pivot's search left, then the rows below
 
-  module _ (n i : ℕ) (a a' : List Float) (p p' : List ℕ) (swaps : ℕ) (r : AfterColumn) (square : Square L.width n a) (h : i < n) (brought : runAfter r a' p' ≡ bringPivotFlat L.width n i a p swaps) where
-    found : column A n i (going (decode L a) p swaps) ≡ reduceRun A n i (runAfter r (decode L a') p')
-    found = column-by L Q.lawful n a square A Q.real Q.agrees i p swaps h r a' p' brought
+  module _ (n i : ℕ) (a a' : List Float) (p p' : List ℕ) (swaps : ℕ) (r : AfterColumn) (square : Square L.width n a) (h : i < n) (brought : run_after r a' p' ≡ bring_pivot_flat L.width n i a p swaps) where
+    found : column A n i (going (decode L a) p swaps) ≡ reduce_run A n i (run_after r (decode L a') p')
+    found = column_by L Q.lawful n a square A Q.real Q.agrees i p swaps h r a' p' brought
 
-    pub column-stops : (c : ℕ) → r ≡ Singular c → column A n i (going (decode L a) p swaps) ≡ runAfter r (decode L a') p'
-    column-stops c t =
-        found ∙ ap (λ (s : AfterColumn). reduceRun A n i (runAfter s (decode L a') p')) t ∙ sym (ap (λ (s : AfterColumn). runAfter s (decode L a') p') t)
+    pub column_stops : (c : ℕ) → r ≡ Singular c → column A n i (going (decode L a) p swaps) ≡ run_after r (decode L a') p'
+    column_stops c t =
+        found ∙ ap (λ (s : AfterColumn). reduce_run A n i (run_after s (decode L a') p')) t ∙ sym (ap (λ (s : AfterColumn). run_after s (decode L a') p') t)
 
-    pub column-goes : (a'' : List Float) (t : ℕ) → r ≡ Going t → decode L a'' ≡ reduce A n i (decode L a') → column A n i (going (decode L a) p swaps) ≡ going (decode L a'') p' t
-    column-goes a'' t g d = found ∙ ap (λ (s : AfterColumn). reduceRun A n i (runAfter s (decode L a') p')) g ∙ ap (λ (m : List R). going m p' t) (sym d)
+    pub column_goes : (a'' : List Float) (t : ℕ) → r ≡ Going t → decode L a'' ≡ reduce A n i (decode L a') → column A n i (going (decode L a) p swaps) ≡ going (decode L a'') p' t
+    column_goes a'' t g d = found ∙ ap (λ (s : AfterColumn). reduce_run A n i (run_after s (decode L a') p')) g ∙ ap (λ (m : List R). going m p' t) (sym d)
 
-  pub few-swaps : (r : AfterColumn) (t k : ℕ) → r ≡ Going t → swapsOf r ≤ k → t ≤ k
-  few-swaps r t k g h = omega (arith, ap swapsOf g)
+  pub few_swaps : (r : AfterColumn) (t k : ℕ) → r ≡ Going t → swaps_of r ≤ k → t ≤ k
+  few_swaps r t k g h = omega (arith, ap swaps_of g)
 
   -- ---- the columns: before column i, what is left to run gives the whole
 
@@ -49,52 +49,52 @@ module _ {R : Type 0} {A : Algebra R} {L : Layout R} (Q : Laws A L) where
     pub square : Square L.width n a
     pub size : length order ≡ n
     pub kept : length order ≡ length order₀
-    pub rest : upto i n (column A n) (going (decode L a) order swaps) ≡ luOf A n (decode L a₀)
+    pub rest : upto i n (column A n) (going (decode L a) order swaps) ≡ lu_of A n (decode L a₀)
 
-  pub columns-start : (n : ℕ) (a : List Float) (order : List ℕ) → Square L.width n a → order ≡ countUp n → Columns n a a order order 0 0
-  unfolding luOf
-  columns-start n a order s e =
-      record { within = omega arith; few = omega arith; square = s; size = ap length e ∙ tabulate-length (λ k. k) n 0; kept = refl; rest = ap (λ (p : List ℕ). upto 0 n (column A n) (going (decode L a) p 0)) e }
+  pub columns_start : (n : ℕ) (a : List Float) (order : List ℕ) → Square L.width n a → order ≡ count_up n → Columns n a a order order 0 0
+  unfolding lu_of
+  columns_start n a order s e =
+      record { within = omega arith; few = omega arith; square = s; size = ap length e ∙ tabulate_length (λ k. k) n 0; kept = refl; rest = ap (λ (p : List ℕ). upto 0 n (column A n) (going (decode L a) p 0)) e }
 
-  pub columns-turn : (n : ℕ) (a₀ a a' : List Float) (order₀ order order' : List ℕ) (swaps t i : ℕ) (r : AfterColumn) → Columns n a₀ a order₀ order swaps i → i < n
-      → column A n i (going (decode L a) order swaps) ≡ runAfter r (decode L a') order' → r ≡ Going t → swapsOf r ≤ i + 1 → length a' ≡ length a → length order' ≡ length order
+  pub columns_turn : (n : ℕ) (a₀ a a' : List Float) (order₀ order order' : List ℕ) (swaps t i : ℕ) (r : AfterColumn) → Columns n a₀ a order₀ order swaps i → i < n
+      → column A n i (going (decode L a) order swaps) ≡ run_after r (decode L a') order' → r ≡ Going t → swaps_of r ≤ i + 1 → length a' ≡ length a → length order' ≡ length order
       → Columns n a₀ a' order₀ order' t (i + 1)
-  columns-turn n a₀ a a' order₀ order order' swaps t i r c h e g b sa so = record {
+  columns_turn n a₀ a a' order₀ order order' swaps t i r c h e g b sa so = record {
     within = omega arith;
-    few = omega (arith, ap swapsOf g);
+    few = omega (arith, ap swaps_of g);
     square = record { small = c.square.small; some = c.square.some; narrow = c.square.narrow; full = sa ∙ c.square.full };
     size = so ∙ c.size;
     kept = so ∙ c.kept;
-    rest = upto_turn i n (column A n) (going (decode L a) order swaps) (going (decode L a') order' t) h (sym (e ∙ ap (λ (s : AfterColumn). runAfter s (decode L a') order') g)) c.rest;
+    rest = upto_turn i n (column A n) (going (decode L a) order swaps) (going (decode L a') order' t) h (sym (e ∙ ap (λ (s : AfterColumn). run_after s (decode L a') order') g)) c.rest;
   }
 
-  pub columns-stop : (n : ℕ) (a₀ a a' : List Float) (order₀ order order' : List ℕ) (swaps i c : ℕ) (r : AfterColumn) → Columns n a₀ a order₀ order swaps i → i < n
-      → column A n i (going (decode L a) order swaps) ≡ runAfter r (decode L a') order' → r ≡ Singular c → luOf A n (decode L a₀) ≡ runAfter r (decode L a') order'
-  columns-stop n a₀ a a' order₀ order order' swaps i c r k h e g =
-      let f = ap (λ (s : AfterColumn). runAfter s (decode L a') order') g in
-      run-stops A n i c (going (decode L a) order swaps) h (e ∙ f) k.rest ∙ sym f
+  pub columns_stop : (n : ℕ) (a₀ a a' : List Float) (order₀ order order' : List ℕ) (swaps i c : ℕ) (r : AfterColumn) → Columns n a₀ a order₀ order swaps i → i < n
+      → column A n i (going (decode L a) order swaps) ≡ run_after r (decode L a') order' → r ≡ Singular c → lu_of A n (decode L a₀) ≡ run_after r (decode L a') order'
+  columns_stop n a₀ a a' order₀ order order' swaps i c r k h e g =
+      let f = ap (λ (s : AfterColumn). run_after s (decode L a') order') g in
+      run_stops A n i c (going (decode L a) order swaps) h (e ∙ f) k.rest ∙ sym f
 
-  pub columns-end : (n : ℕ) (a₀ a : List Float) (order₀ order : List ℕ) (swaps i : ℕ) → Columns n a₀ a order₀ order swaps i → n ≤ i → luOf A n (decode L a₀) ≡ going (decode L a) order swaps
-  columns-end n a₀ a order₀ order swaps i c h = sym (upto-end i n (column A n) (going (decode L a) order swaps) h c.rest)
+  pub columns_end : (n : ℕ) (a₀ a : List Float) (order₀ order : List ℕ) (swaps i : ℕ) → Columns n a₀ a order₀ order swaps i → n ≤ i → lu_of A n (decode L a₀) ≡ going (decode L a) order swaps
+  columns_end n a₀ a order₀ order swaps i c h = sym (upto_end i n (column A n) (going (decode L a) order swaps) h c.rest)
 
   -- ---- LU whole: a copy, the order counted up, the columns, and both buffers cleared where it is singular
 
-  pub counted-up : (n : ℕ) (o q : List ℕ) → q ≡ countUp (length o) → length o ≡ n → q ≡ countUp n
-  counted-up n o q e h = e ∙ ap countUp h
+  pub counted_up : (n : ℕ) (o q : List ℕ) → q ≡ count_up (length o) → length o ≡ n → q ≡ count_up n
+  counted_up n o q e h = e ∙ ap count_up h
 
   module _ (n : ℕ) (a f l m : List Float) (o q p : List ℕ) (r : AfterColumn) (square : Square L.width n f) (long : length o ≡ n)
-      (copied : l ≡ a) (ran : luOf A n (decode L l) ≡ runAfter r (decode L m) p) (copy-size : length l ≡ length f) (run-size : length m ≡ length l) (count-size : length q ≡ length o) (order-size : length p ≡ length q) where
-    whole : luOf A n (decode L a) ≡ runAfter r (decode L m) p
-    whole = ap (λ (k : List Float). luOf A n (decode L k)) (sym copied) ∙ ran
+      (copied : l ≡ a) (ran : lu_of A n (decode L l) ≡ run_after r (decode L m) p) (copy-size : length l ≡ length f) (run-size : length m ≡ length l) (count-size : length q ≡ length o) (order-size : length p ≡ length q) where
+    whole : lu_of A n (decode L a) ≡ run_after r (decode L m) p
+    whole = ap (λ (k : List Float). lu_of A n (decode L k)) (sym copied) ∙ ran
 
     full : length m ≡ n * n * L.width
     full = run-size ∙ copy-size ∙ square.full
 
-    pub factor-done : (swaps : ℕ) → r ≡ Going swaps → luAnswered (value swaps) 0 m p ≡ luFinish A L n (luOf A n (decode L a))
-    factor-done swaps g = finish-done A L Q.lawful n (luOf A n (decode L a)) m p swaps (whole ∙ ap (λ (s : AfterColumn). runAfter s (decode L m) p) g) full
+    pub factor_done : (swaps : ℕ) → r ≡ Going swaps → lu_answered (value swaps) 0 m p ≡ lu_finish A L n (lu_of A n (decode L a))
+    factor_done swaps g = finish_done A L Q.lawful n (lu_of A n (decode L a)) m p swaps (whole ∙ ap (λ (s : AfterColumn). run_after s (decode L m) p) g) full
 
-    pub factor-singular : (c : ℕ) (g : List Float) (z : List ℕ) → r ≡ Singular c → g ≡ replicate (length m) float.zero → z ≡ replicate (length p) 0
-        → luAnswered (refused refusal.singular) c g z ≡ luFinish A L n (luOf A n (decode L a))
-    factor-singular c g z e eg ez =
-        finish-singular A L Q.lawful n (luOf A n (decode L a)) g z c (whole ∙ ap (λ (s : AfterColumn). runAfter s (decode L m) p) e)
+    pub factor_singular : (c : ℕ) (g : List Float) (z : List ℕ) → r ≡ Singular c → g ≡ replicate (length m) float.zero → z ≡ replicate (length p) 0
+        → lu_answered (refused refusal.singular) c g z ≡ lu_finish A L n (lu_of A n (decode L a))
+    factor_singular c g z e eg ez =
+        finish_singular A L Q.lawful n (lu_of A n (decode L a)) g z c (whole ∙ ap (λ (s : AfterColumn). run_after s (decode L m) p) e)
         (eg ∙ ap (λ (k : ℕ). replicate k float.zero) full) (ez ∙ ap (λ (k : ℕ). replicate k 0) (order-size ∙ count-size ∙ long))

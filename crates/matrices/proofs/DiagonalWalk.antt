@@ -13,79 +13,79 @@ use Rattle.algebra.specs.Algebra.{Algebra, zero_of, one_of}
 use Rattle.algebra.specs.Flat.{Layout, decode}
 use Rattle.algebra.specs.Loop.{upto}
 use Rattle.algebra.specs.Outcome.{value, refused}
-use Rattle.algebra.proofs.Loop.{upto_turn, upto-end}
+use Rattle.algebra.proofs.Loop.{upto_turn, upto_end}
 use Rattle.algebra.proofs.Laws.{Laws}
-use Rattle.matrices.specs.Entries.{countRefusal, swapsRefusal, determinantRefusal, determinantLeft}
-use Rattle.matrices.specs.Determinant.{signed, diagonalProduct, determinantOf}
+use Rattle.matrices.specs.Entries.{count_refusal, swaps_refusal, determinant_refusal, determinant_left}
+use Rattle.matrices.specs.Determinant.{signed, diagonal_product, determinant_of}
 use Rattle.matrices.specs.Matrix.{Square, cell}
 use Rattle.orders.specs.Order.{is_order}
-use Rattle.orders.specs.Walk.{marksNone, marksWith, isFull}
-use Rattle.matrices.specs.Walk.{walkedRefusal}
+use Rattle.orders.specs.Walk.{marks_none, marks_with, is_full}
+use Rattle.matrices.specs.Walk.{walked_refusal}
 use Rattle.orders.specs.declared.Marks.{Marks}
-use Rattle.matrices.proofs.Answers.{determinant-done, determinant-refused}
-use Rattle.orders.proofs.Odd.{odd-mod}
-use Rattle.orders.proofs.Walk.{Marking, marking, mark-turn, mark-stop, mark-full, mark-odd}
+use Rattle.matrices.proofs.Answers.{determinant_done, determinant_refused}
+use Rattle.orders.proofs.Odd.{odd_mod}
+use Rattle.orders.proofs.Walk.{Marking, marking, mark_turn, mark_stop, mark_full, mark_odd}
 
 module _ {R : Type 0} {A : Algebra R} {L : Layout R} (Q : Laws A L) where
   abbrev pub Multiplying : ℕ → List Float → R → ℕ → Type 0
-  Multiplying n a x i = upto i n (λ k y. A.mul y (cell A n (decode L a) k k)) x ≡ diagonalProduct A n (decode L a)
+  Multiplying n a x i = upto i n (λ k y. A.mul y (cell A n (decode L a) k k)) x ≡ diagonal_product A n (decode L a)
 
   pub multiplying : (n : ℕ) (a : List Float) → Multiplying n a (one_of A) 0
-  unfolding diagonalProduct
+  unfolding diagonal_product
   multiplying n a = refl
 
-  pub multiply-turn : (n : ℕ) (a : List Float) (x u y : R) (i : ℕ) → Multiplying n a x i → i < n → u ≡ get_or (decode L a) (i * n + i) (zero_of A) → y ≡ A.mul x u → Multiplying n a y (i + 1)
+  pub multiply_turn : (n : ℕ) (a : List Float) (x u y : R) (i : ℕ) → Multiplying n a x i → i < n → u ≡ get_or (decode L a) (i * n + i) (zero_of A) → y ≡ A.mul x u → Multiplying n a y (i + 1)
   unfolding cell
-  multiply-turn n a x u y i m h eu ey = upto_turn i n _ x y h (ey ∙ ap (A.mul x) eu) m
+  multiply_turn n a x u y i m h eu ey = upto_turn i n _ x y h (ey ∙ ap (A.mul x) eu) m
 
-  pub multiply-end : (n : ℕ) (a : List Float) (x : R) (i : ℕ) → Multiplying n a x i → n ≤ i → x ≡ diagonalProduct A n (decode L a)
-  multiply-end n a x i m h = upto-end i n _ x h m
+  pub multiply_end : (n : ℕ) (a : List Float) (x : R) (i : ℕ) → Multiplying n a x i → n ≤ i → x ≡ diagonal_product A n (decode L a)
+  multiply_end n a x i m h = upto_end i n _ x h m
 
-  pub sign-odd : (swaps : ℕ) (x y : R) → swaps % 2 ≡ 1 → y ≡ A.neg x → y ≡ signed A swaps x
-  sign-odd swaps x y h e = rw (sym (odd-mod swaps) ∙ eq-eqb _ _ h) e
+  pub sign_odd : (swaps : ℕ) (x y : R) → swaps % 2 ≡ 1 → y ≡ A.neg x → y ≡ signed A swaps x
+  sign_odd swaps x y h e = rw (sym (odd_mod swaps) ∙ eq-eqb _ _ h) e
 
-  pub sign-even : (swaps : ℕ) (x : R) → (swaps % 2 ≡ 1 → ⊥) → x ≡ signed A swaps x
-  sign-even swaps x h = rw (sym (odd-mod swaps) ∙ ne_eqb _ _ h) refl
+  pub sign_even : (swaps : ℕ) (x : R) → (swaps % 2 ≡ 1 → ⊥) → x ≡ signed A swaps x
+  sign_even swaps x h = rw (sym (odd_mod swaps) ∙ ne_eqb _ _ h) refl
 
   -- before turn i of the walk that tests the order as it multiplies
   pub record Walking (n : ℕ) (a : List Float) (o : List ℕ) (m : Marks) (x : R) (i : ℕ) : Type 0 where
     pub marks : Marking n o m i
     pub product : Multiplying n a x i
 
-  pub walking : (n : ℕ) (a : List Float) (o : List ℕ) → Walking n a o marksNone (one_of A) 0
+  pub walking : (n : ℕ) (a : List Float) (o : List ℕ) → Walking n a o marks_none (one_of A) 0
   walking n a o = record { marks = marking n o; product = multiplying n a }
 
   -- what is below n has its bits
-  pub walk-bit : (n : ℕ) (a : List Float) (x : ℕ) → Square L.width n a → (n ≤ x → ⊥) → x < largest.n
-  walk-bit n a x q below = let z = q.small in omega arith
+  pub walk_bit : (n : ℕ) (a : List Float) (x : ℕ) → Square L.width n a → (n ≤ x → ⊥) → x < largest.n
+  walk_bit n a x q below = let z = q.small in omega arith
 
   pub walk_turn : {n : ℕ} {a : List Float} {o : List ℕ} {m : Marks} {x : R} {i : ℕ} → Walking n a o m x i → (m' : Marks) (u y : R) → i < n → Square L.width n a → length o ≡ n → (n ≤ get_or o i 0 → ⊥)
-      → m' ≡ marksWith m (get_or o i 0) → u ≡ get_or (decode L a) (i * n + i) (zero_of A) → y ≡ A.mul x u → Walking n a o m' y (i + 1)
+      → m' ≡ marks_with m (get_or o i 0) → u ≡ get_or (decode L a) (i * n + i) (zero_of A) → y ≡ A.mul x u → Walking n a o m' y (i + 1)
   walk_turn {n} {a} {o} {m} {x} {i} w m' u y h q long below em eu ey = subst (λ (k : Marks). Walking n a o k y (i + 1)) (sym em) record {
-    marks = mark-turn n o m i w.marks (omega arith) (omega arith) q.small;
-    product = multiply-turn n a x u y i w.product h eu ey;
+    marks = mark_turn n o m i w.marks (omega arith) (omega arith) q.small;
+    product = multiply_turn n a x u y i w.product h eu ey;
   }
 
   -- the lengths are right: 7 or 8 is left
-  right : (n : ℕ) (a : List Float) (o : List ℕ) (s : ℕ) → Square L.width n a → length o ≡ n → determinantRefusal L.width n (length a) o s ≡ cond (is_order n o) (swapsRefusal o s) 7
+  right : (n : ℕ) (a : List Float) (o : List ℕ) (s : ℕ) → Square L.width n a → length o ≡ n → determinant_refusal L.width n (length a) o s ≡ cond (is_order n o) (swaps_refusal o s) 7
   right n a o s q long = rw (le-ltb largest.n n q.small, eq-eqb _ _ q.full, eq-eqb _ _ long) refl
 
-  pub walk-stop : (n : ℕ) (a : List Float) (o : List ℕ) (s : ℕ) (m : Marks) (x : R) (i : ℕ) → Walking n a o m x i → i < n → Square L.width n a → length o ≡ n → n ≤ get_or o i 0
-      → refused refusal.notAnOrder ≡ determinantLeft A L n a o s
-  walk-stop n a o s m x i w h q long past =
-      determinant-refused A L n a o s 7 (sym (right n a o s q long ∙ ap (λ (t : Bool). cond t (swapsRefusal o s) 7) (mark-stop n o m i w.marks (omega arith) past))) (λ z. omega arith)
+  pub walk_stop : (n : ℕ) (a : List Float) (o : List ℕ) (s : ℕ) (m : Marks) (x : R) (i : ℕ) → Walking n a o m x i → i < n → Square L.width n a → length o ≡ n → n ≤ get_or o i 0
+      → refused refusal.not_an_order ≡ determinant_left A L n a o s
+  walk_stop n a o s m x i w h q long past =
+      determinant_refused A L n a o s 7 (sym (right n a o s q long ∙ ap (λ (t : Bool). cond t (swaps_refusal o s) 7) (mark_stop n o m i w.marks (omega arith) past))) (λ z. omega arith)
 
-  module _ (n : ℕ) (a : List Float) (o : List ℕ) (s : ℕ) (m : Marks) (x : R) (i k : ℕ) (w : Walking n a o m x i) (h : n ≤ i) (q : Square L.width n a) (long : length o ≡ n) (e : k ≡ walkedRefusal n m s) where
-    counted : k ≡ determinantRefusal L.width n (length a) o s
+  module _ (n : ℕ) (a : List Float) (o : List ℕ) (s : ℕ) (m : Marks) (x : R) (i k : ℕ) (w : Walking n a o m x i) (h : n ≤ i) (q : Square L.width n a) (long : length o ≡ n) (e : k ≡ walked_refusal n m s) where
+    counted : k ≡ determinant_refusal L.width n (length a) o s
     counted =
-        e ∙ ap (λ (b : Bool). cond (isFull n m.word) (countRefusal b s) 7) (mark-odd n o m i w.marks (omega arith))
-        ∙ ap (λ (b : Bool). cond b (swapsRefusal o s) 7) (mark-full n o m i w.marks (omega arith) long) ∙ sym (right n a o s q long)
+        e ∙ ap (λ (b : Bool). cond (is_full n m.word) (count_refusal b s) 7) (mark_odd n o m i w.marks (omega arith))
+        ∙ ap (λ (b : Bool). cond b (swaps_refusal o s) 7) (mark_full n o m i w.marks (omega arith) long) ∙ sym (right n a o s q long)
 
-    pub walk_refused : (k ≡ 0 → ⊥) → refused k ≡ determinantLeft A L n a o s
-    walk_refused ne = determinant-refused A L n a o s k counted ne
+    pub walk_refused : (k ≡ 0 → ⊥) → refused k ≡ determinant_left A L n a o s
+    walk_refused ne = determinant_refused A L n a o s k counted ne
 
-    pub walk_end : (y : R) → k ≡ 0 → y ≡ signed A s x → value y ≡ determinantLeft A L n a o s
-    unfolding determinantOf
+    pub walk_end : (y : R) → k ≡ 0 → y ≡ signed A s x → value y ≡ determinant_left A L n a o s
+    unfolding determinant_of
     walk_end y z ey =
-        ap (λ (v : R). value v) (ey ∙ ap (signed A s) (multiply-end n a x i w.product h))
-        ∙ determinant-done A L n a o s (sym counted ∙ z)
+        ap (λ (v : R). value v) (ey ∙ ap (signed A s) (multiply_end n a x i w.product h))
+        ∙ determinant_done A L n a o s (sym counted ∙ z)

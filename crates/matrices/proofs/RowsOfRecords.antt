@@ -10,17 +10,17 @@ use lib.Seq.{get_or-set_same, get_or-set_other}
 use lib.Ieee.{Float}
 use Rattle.real.specs.Operations as float
 use Rattle.algebra.specs.Algebra.{Algebra, RealParts, reals, zero_of}
-use Rattle.algebra.specs.Flat.{Layout, Lawful, Agrees, realParts, recordAt, recordCount, decode}
-use Rattle.algebra.proofs.Flat.{decode-length, decode-size, decode-at, decode_is, decode-reals, record_same}
-use Rattle.algebra.proofs.Loop.{upto-reach}
-use Rattle.matrices.specs.Matrix.{Square, exchange, exchangeRows}
-use Rattle.matrices.specs.Lu.{going, bringPivot, bringPivotFlat, pivotOf, reduceRun, column}
-use Rattle.matrices.specs.RunAfter.{runAfter}
+use Rattle.algebra.specs.Flat.{Layout, Lawful, Agrees, real_parts, record_at, record_count, decode}
+use Rattle.algebra.proofs.Flat.{decode_length, decode_size, decode_at, decode_is, decode_reals, record_same}
+use Rattle.algebra.proofs.Loop.{upto_reach}
+use Rattle.matrices.specs.Matrix.{Square, exchange, exchange_rows}
+use Rattle.matrices.specs.Lu.{going, bring_pivot, bring_pivot_flat, pivot_of, reduce_run, column}
+use Rattle.matrices.specs.RunAfter.{run_after}
 use Rattle.matrices.specs.declared.AfterColumn.{AfterColumn}
 use Rattle.matrices.specs.declared.AfterColumn.TheVariants.{Singular, Going}
-use Rattle.matrices.proofs.Lu.{pivot-row}
-use Rattle.matrices.proofs.Places.{row-there, row_inside, flat-row}
-use Rattle.matrices.proofs.Slopes.{mapRun, bringPivot-carry, pivot-map}
+use Rattle.matrices.proofs.Lu.{pivot_row}
+use Rattle.matrices.proofs.Places.{row_there, row_inside, flat_row}
+use Rattle.matrices.proofs.Slopes.{map_run, bring_pivot-carry, pivot_map}
 
 -- two places of different rows differ
 apart : (k p q e c : ℕ) → (p ≡ q → ⊥) → e < k → c < k → p * k + e ≡ q * k + c → ⊥
@@ -38,9 +38,9 @@ record Exchanged {B : Type 0} (d : B) (k p q : ℕ) (l : List B) (c : ℕ) (m : 
   rest : (j : ℕ) → ((e : ℕ) → e < c → j ≡ p * k + e → ⊥) → ((e : ℕ) → e < c → j ≡ q * k + e → ⊥) → get_or m j d ≡ get_or l j d
 
 module _ {B : Type 0} (d : B) (k p q : ℕ) (l : List B) (ne : p ≡ q → ⊥) (hp : p * k + k ≤ length l) (hq : q * k + k ≤ length l) where
-  one_more : (c : ℕ) (m : List B) → c < k → Exchanged d k p q l c m → Exchanged d k p q l (c + 1) (exchange d (p * k + c) (q * k + c) m)
+  one_more_lem : (c : ℕ) (m : List B) → c < k → Exchanged d k p q l c m → Exchanged d k p q l (c + 1) (exchange d (p * k + c) (q * k + c) m)
   unfolding exchange
-  one_more c m hc x = record {
+  one_more_lem c m hc x = record {
     size = length-set (set m X u) Y v ∙ length-set m X u ∙ x.size;
     upper = λ e h. up e h (dec_lt e c);
     lower = λ e h. low e h (dec_lt e c);
@@ -59,11 +59,11 @@ module _ {B : Type 0} (d : B) (k p q : ℕ) (l : List B) (ne : p ≡ q → ⊥) 
       v : B
       v = get_or m X d
 
-      old-u : u ≡ get_or l Y d
-      old-u = x.rest Y (λ e h z. apart k p q e c ne (omega arith) hc (sym z)) (λ e h z. omega arith)
+      old_u : u ≡ get_or l Y d
+      old_u = x.rest Y (λ e h z. apart k p q e c ne (omega arith) hc (sym z)) (λ e h z. omega arith)
 
-      old-v : v ≡ get_or l X d
-      old-v = x.rest X (λ e h z. omega arith) (λ e h z. apart k p q c e ne hc (omega arith) z)
+      old_v : v ≡ get_or l X d
+      old_v = x.rest X (λ e h z. omega arith) (λ e h z. apart k p q c e ne hc (omega arith) z)
 
       away : (j : ℕ) → (j ≡ X → ⊥) → (j ≡ Y → ⊥) → get_or (set (set m X u) Y v) j d ≡ get_or m j d
       away j a b = get_or-set_other (set m X u) Y j v d b ∙ get_or-set_other m X j u d a
@@ -72,30 +72,30 @@ module _ {B : Type 0} (d : B) (k p q : ℕ) (l : List B) (ne : p ≡ q → ⊥) 
       up e h (yes b) = away (p * k + e) (λ z. omega arith) (λ z. apart k p q e c ne (omega arith) hc z) ∙ x.upper e b
       up e h (no b) =
           let s : e ≡ c = omega arith in
-          rw s (get_or-set_other (set m X u) Y X v d (λ z. apart k p q c c ne hc hc z) ∙ get_or-set_same m X u d (omega (arith, x.size)) ∙ old-u)
+          rw s (get_or-set_other (set m X u) Y X v d (λ z. apart k p q c c ne hc hc z) ∙ get_or-set_same m X u d (omega (arith, x.size)) ∙ old_u)
 
       low : (e : ℕ) → e < c + 1 → Dec (e < c) → get_or (set (set m X u) Y v) (q * k + e) d ≡ get_or l (p * k + e) d
       low e h (yes b) = away (q * k + e) (λ z. apart k p q c e ne hc (omega arith) (sym z)) (λ z. omega arith) ∙ x.lower e b
       low e h (no b) =
           let s : e ≡ c = omega arith in
-          rw s (get_or-set_same (set m X u) Y v d (omega (arith, x.size, length-set m X u)) ∙ old-v)
+          rw s (get_or-set_same (set m X u) Y v d (omega (arith, x.size, length-set m X u)) ∙ old_v)
 
-  all-exchanged : Exchanged d k p q l k (exchangeRows d k p q l)
-  unfolding exchangeRows
-  all-exchanged =
-      upto-reach (Exchanged d k p q l) (λ c. exchange d (p * k + c) (q * k + c)) 0 k (omega arith) (λ c m a b x. one_more c m b x) l
+  all_exchanged : Exchanged d k p q l k (exchange_rows d k p q l)
+  unfolding exchange_rows
+  all_exchanged =
+      upto_reach (Exchanged d k p q l) (λ c. exchange d (p * k + c) (q * k + c)) 0 k (omega arith) (λ c m a b x. one_more_lem c m b x) l
       (record { size = refl; upper = λ e h. absurd (omega arith); lower = λ e h. absurd (omega arith); rest = λ j f g. refl })
 
 module _ {R : Type 0} (L : Layout R) (W : Lawful L) (n : ℕ) (l : List Float) (s : Square L.width n l) where
   -- a record of row p in the one list is that of row q in the other, if their floats are so
-  record-row : (l' : List Float) (p q c : ℕ) → c < n → ((e : ℕ) → e < n * L.width → get_or l' (p * (n * L.width) + e) float.zero ≡ get_or l (q * (n * L.width) + e) float.zero)
-      → recordAt L l' (p * n + c) ≡ recordAt L l (q * n + c)
-  record-row l' p q c hc f =
+  record_row : (l' : List Float) (p q c : ℕ) → c < n → ((e : ℕ) → e < n * L.width → get_or l' (p * (n * L.width) + e) float.zero ≡ get_or l (q * (n * L.width) + e) float.zero)
+      → record_at L l' (p * n + c) ≡ record_at L l (q * n + c)
+  record_row l' p q c hc f =
       record_same L W l' l (p * n + c) (q * n + c)
       (λ i b.
       let m = mul-le-mul_right L.width hc in
-      let x : (p * n + c) * L.width + i ≡ p * (n * L.width) + (c * L.width + i) = omega (arith, flat-row L.width n p c) in
-      let y : q * (n * L.width) + (c * L.width + i) ≡ (q * n + c) * L.width + i = omega (arith, flat-row L.width n q c) in
+      let x : (p * n + c) * L.width + i ≡ p * (n * L.width) + (c * L.width + i) = omega (arith, flat_row L.width n p c) in
+      let y : q * (n * L.width) + (c * L.width + i) ≡ (q * n + c) * L.width + i = omega (arith, flat_row L.width n q c) in
       ap (λ (j : ℕ). get_or l' j float.zero) x ∙ f (c * L.width + i) (omega arith) ∙ ap (λ (j : ℕ). get_or l j float.zero) y)
 
   -- a float of a record outside row p is none of that row's
@@ -114,53 +114,53 @@ module _ {R : Type 0} (L : Layout R) (W : Lawful L) (n : ℕ) (l : List Float) (
           go2 (yes lt) = out (omega arith) lt
           go2 (no ge2) = let m : p * n + n ≤ r = omega arith in omega (arith, mul-le-mul_right L.width m, add-mul (p * n) n L.width, a)
 
-  pub decode-exchangeRows : (d : R) (p q : ℕ) → p < n → q < n → (p ≡ q → ⊥) → decode L (exchangeRows float.zero (n * L.width) p q l) ≡ exchangeRows d n p q (decode L l)
-  decode-exchangeRows d p q hp hq ne =
-      decode_is L W l' m d (count ∙ sym (b.size ∙ decode-length L W l ∙ full))
+  pub decode-exchange_rows : (d : R) (p q : ℕ) → p < n → q < n → (p ≡ q → ⊥) → decode L (exchange_rows float.zero (n * L.width) p q l) ≡ exchange_rows d n p q (decode L l)
+  decode-exchange_rows d p q hp hq ne =
+      decode_is L W l' m d (count ∙ sym (b.size ∙ decode_length L W l ∙ full))
       (λ r h. go r (omega (arith, count)) (dec_lt r (p * n)) (dec_lt r (p * n + n)) (dec_lt r (q * n)) (dec_lt r (q * n + n)))
     where
       w : ℕ
       w = L.width
 
       l' : List Float
-      l' = exchangeRows float.zero (n * L.width) p q l
+      l' = exchange_rows float.zero (n * L.width) p q l
 
       m : List R
-      m = exchangeRows d n p q (decode L l)
+      m = exchange_rows d n p q (decode L l)
 
-      full : recordCount L l ≡ n * n
-      full = decode-size L W l (n * n) s.full
+      full : record_count L l ≡ n * n
+      full = decode_size L W l (n * n) s.full
 
       long : length (decode L l) ≡ n * n
-      long = decode-length L W l ∙ full
+      long = decode_length L W l ∙ full
 
       a : Exchanged float.zero (n * L.width) p q l (n * L.width) l'
-      a = all-exchanged float.zero (n * L.width) p q l ne (row_inside L.width n l p s hp) (row_inside L.width n l q s hq)
+      a = all_exchanged float.zero (n * L.width) p q l ne (row_inside L.width n l p s hp) (row_inside L.width n l q s hq)
 
       b : Exchanged d n p q (decode L l) n m
-      b = all-exchanged d n p q (decode L l) ne (omega (arith, long, row-there n p hp)) (omega (arith, long, row-there n q hq))
+      b = all_exchanged d n p q (decode L l) ne (omega (arith, long, row_there n p hp)) (omega (arith, long, row_there n q hq))
 
-      count : recordCount L l' ≡ n * n
+      count : record_count L l' ≡ n * n
       count = ap (λ (k : ℕ). k / L.width) a.size ∙ full
 
-      upper : (r : ℕ) → p * n ≤ r → r < p * n + n → recordAt L l' r ≡ get_or m r d
+      upper : (r : ℕ) → p * n ≤ r → r < p * n + n → record_at L l' r ≡ get_or m r d
       upper r lo hi =
           let e : r ≡ p * n + (r - p * n) = omega arith in
           let t : r - p * n < n = omega arith in
-          rw e (record-row l' p q (r - p * n) t a.upper ∙ sym (b.upper (r - p * n) t ∙ decode-at L W l (q * n + (r - p * n)) d (omega (arith, full, row-there n q hq))))
+          rw e (record_row l' p q (r - p * n) t a.upper ∙ sym (b.upper (r - p * n) t ∙ decode_at L W l (q * n + (r - p * n)) d (omega (arith, full, row_there n q hq))))
 
-      lower : (r : ℕ) → q * n ≤ r → r < q * n + n → recordAt L l' r ≡ get_or m r d
+      lower : (r : ℕ) → q * n ≤ r → r < q * n + n → record_at L l' r ≡ get_or m r d
       lower r lo hi =
           let e : r ≡ q * n + (r - q * n) = omega arith in
           let t : r - q * n < n = omega arith in
-          rw e (record-row l' q p (r - q * n) t a.lower ∙ sym (b.lower (r - q * n) t ∙ decode-at L W l (p * n + (r - q * n)) d (omega (arith, full, row-there n p hp))))
+          rw e (record_row l' q p (r - q * n) t a.lower ∙ sym (b.lower (r - q * n) t ∙ decode_at L W l (p * n + (r - q * n)) d (omega (arith, full, row_there n p hp))))
 
-      rest : (r : ℕ) → r < n * n → (p * n ≤ r → r < p * n + n → ⊥) → (q * n ≤ r → r < q * n + n → ⊥) → recordAt L l' r ≡ get_or m r d
+      rest : (r : ℕ) → r < n * n → (p * n ≤ r → r < p * n + n → ⊥) → (q * n ≤ r → r < q * n + n → ⊥) → record_at L l' r ≡ get_or m r d
       rest r h u v =
           record_same L W l' l r r (λ i c. a.rest (r * L.width + i) (λ e k z. outside r p i e u c k z) (λ e k z. outside r q i e v c k z))
-          ∙ sym (b.rest r (λ e k z. u (omega arith) (omega arith)) (λ e k z. v (omega arith) (omega arith)) ∙ decode-at L W l r d (omega (arith, full)))
+          ∙ sym (b.rest r (λ e k z. u (omega arith) (omega arith)) (λ e k z. v (omega arith) (omega arith)) ∙ decode_at L W l r d (omega (arith, full)))
 
-      go : (r : ℕ) → r < n * n → Dec (r < p * n) → Dec (r < p * n + n) → Dec (r < q * n) → Dec (r < q * n + n) → recordAt L l' r ≡ get_or m r d
+      go : (r : ℕ) → r < n * n → Dec (r < p * n) → Dec (r < p * n + n) → Dec (r < q * n) → Dec (r < q * n + n) → record_at L l' r ≡ get_or m r d
       go r h (no x) (yes y) z t = upper r (omega arith) y
       go r h (yes x) y (no z) (yes t) = lower r (omega arith) t
       go r h (yes x) y (yes z) t = rest r h (λ f g. omega arith) (λ f g. omega arith)
@@ -170,21 +170,21 @@ module _ {R : Type 0} (L : Layout R) (W : Lawful L) (n : ℕ) (l : List Float) (
       go r h (no x) (no y) (no z) (no t) = rest r h (λ f g. omega arith) (λ f g. omega arith)
 
   -- what the code brings up by real parts and floats is what the record's definition does
-  pub decode-bringPivot : (A : Algebra R) → RealParts A → Agrees A L → (i : ℕ) (p : List ℕ) (swaps : ℕ) → i < n
-      → mapRun (decode L) (bringPivotFlat L.width n i l p swaps) ≡ bringPivot (zero_of A) n (pivotOf A n (decode L l) i) i (decode L l) p swaps
-  decode-bringPivot A K G i p swaps h =
-      let e = pivot-map A reals A.re K n (decode L l) i ∙ ap (λ (m : List Float). pivotOf reals n m i) (decode-reals L W A G l) in
+  pub decode-bring_pivot : (A : Algebra R) → RealParts A → Agrees A L → (i : ℕ) (p : List ℕ) (swaps : ℕ) → i < n
+      → map_run (decode L) (bring_pivot_flat L.width n i l p swaps) ≡ bring_pivot (zero_of A) n (pivot_of A n (decode L l) i) i (decode L l) p swaps
+  decode-bring_pivot A K G i p swaps h =
+      let e = pivot_map A reals A.re K n (decode L l) i ∙ ap (λ (m : List Float). pivot_of reals n m i) (decode_reals L W A G l) in
       rw (← e)
-      (bringPivot-carry (decode L) float.zero (zero_of A) (n * L.width) n (pivotOf A n (decode L l) i) i l p swaps
-      (λ ne. let b = pivot-row A n (decode L l) i h in decode-exchangeRows (zero_of A) i (pivotOf A n (decode L l) i).row h b.1 (λ z. ne (sym z))))
+      (bring_pivot-carry (decode L) float.zero (zero_of A) (n * L.width) n (pivot_of A n (decode L l) i) i l p swaps
+      (λ ne. let b = pivot_row A n (decode L l) i h in decode-exchange_rows (zero_of A) i (pivot_of A n (decode L l) i).row h b.1 (λ z. ne (sym z))))
 
   -- a column of LU, from what the code has brought up
-  pub column-by : (A : Algebra R) → RealParts A → Agrees A L → (i : ℕ) (p : List ℕ) (swaps : ℕ) → i < n → (r : AfterColumn) (l' : List Float) (p' : List ℕ)
-      → runAfter r l' p' ≡ bringPivotFlat L.width n i l p swaps
-      → column A n i (going (decode L l) p swaps) ≡ reduceRun A n i (runAfter r (decode L l') p')
+  pub column_by : (A : Algebra R) → RealParts A → Agrees A L → (i : ℕ) (p : List ℕ) (swaps : ℕ) → i < n → (r : AfterColumn) (l' : List Float) (p' : List ℕ)
+      → run_after r l' p' ≡ bring_pivot_flat L.width n i l p swaps
+      → column A n i (going (decode L l) p swaps) ≡ reduce_run A n i (run_after r (decode L l') p')
   unfolding column
-  column-by A K G i p swaps h r l' p' e = ap (reduceRun A n i) (sym (decode-bringPivot A K G i p swaps h) ∙ ap (mapRun (decode L)) (sym e) ∙ after r)
+  column_by A K G i p swaps h r l' p' e = ap (reduce_run A n i) (sym (decode-bring_pivot A K G i p swaps h) ∙ ap (map_run (decode L)) (sym e) ∙ after r)
     where
-      after : (t : AfterColumn) → mapRun (decode L) (runAfter t l' p') ≡ runAfter t (decode L l') p'
+      after : (t : AfterColumn) → map_run (decode L) (run_after t l' p') ≡ run_after t (decode L l') p'
       after (Singular c) = refl
       after (Going s) = refl

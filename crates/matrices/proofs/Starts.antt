@@ -13,14 +13,14 @@ use borrow.Author.Tests.{eq-eqb, ne_eqb}
 use Rattle.algebra.specs.Algebra.{Algebra, zero_of, one_of}
 use Rattle.algebra.specs.Flat.{tabulate}
 use Rattle.algebra.specs.Loop.{upto}
-use Rattle.algebra.proofs.Flat.{tabulate-length, tabulate-at}
-use Rattle.algebra.proofs.Loop.{upto-carry, upto-apart, upto-same, upto-reach}
+use Rattle.algebra.proofs.Flat.{tabulate_length, tabulate_at}
+use Rattle.algebra.proofs.Loop.{upto_carry, upto_apart, upto_same, upto_reach}
 use Rattle.matrices.specs.Matrix.{cell, store}
-use Rattle.matrices.specs.Solve.{assign, less, eliminate, forwardRow, forward, divide, backRow, back, substitute, forwardFrom, substituteFrom, solveStarts, solveOf}
-use Rattle.matrices.specs.Inverse.{unit, inverseColumn, inverseOf, units}
+use Rattle.matrices.specs.Solve.{assign, less, eliminate, forward_row, forward, divide, back_row, back, substitute, forward_from, substitute_from, solve_starts, solve_of}
+use Rattle.matrices.specs.Inverse.{unit, inverse_column, inverse_of, units}
 use Rattle.orders.specs.Order.{Order}
-use Rattle.floats.proofs.Fill.{Filled, filled_more, filled-all}
-use Rattle.matrices.proofs.Inner.{stride-apart}
+use Rattle.floats.proofs.Fill.{Filled, filled_more, filled_all}
+use Rattle.matrices.proofs.Inner.{stride_apart}
 use Rattle.orders.proofs.Permutation.{order_below}
 use Rattle.matrices.proofs.Places.{place}
 
@@ -51,48 +51,48 @@ module _ {R : Type 0} (A : Algebra R) (n : ℕ) (a : List R) (stride base : ℕ)
   Off : ℕ → ℕ → Type 0
   Off q i = q ≡ i * stride + base → ⊥
 
-  eliminate-set : (i k q : ℕ) (v : R) (x : List R) → Off q i → Off q k → eliminate A n a stride base i k (set x q v) ≡ set (eliminate A n a stride base i k x) q v
+  eliminate_set : (i k q : ℕ) (v : R) (x : List R) → Off q i → Off q k → eliminate A n a stride base i k (set x q v) ≡ set (eliminate A n a stride base i k x) q v
   unfolding Off eliminate less
-  eliminate-set i k q v x oi ok =
+  eliminate_set i k q v x oi ok =
       let p = i * stride + base in
       let at = get_or-set_other x q p v (zero_of A) (λ e. oi (sym e)) in
       let by = get_or-set_other x q (k * stride + base) v (zero_of A) (λ e. ok (sym e)) in
       (λ t. set (set x q v) p (A.sub (at t) (A.mul (cell A n a i k) (by t)))) ∙ set_comm x q p v _ oi
 
-  row-set : (lo hi i q : ℕ) (v : R) (x : List R) → Off q i → ((k : ℕ) → lo ≤ k → k < hi → Off q k)
+  row_set : (lo hi i q : ℕ) (v : R) (x : List R) → Off q i → ((k : ℕ) → lo ≤ k → k < hi → Off q k)
       → upto lo hi (eliminate A n a stride base i) (set x q v) ≡ set (upto lo hi (eliminate A n a stride base i) x) q v
-  row-set lo hi i q v x oi ok =
-      sym (upto-carry (λ y. set y q v) (eliminate A n a stride base i) (eliminate A n a stride base i) lo hi (λ k y l h. sym (eliminate-set i k q v y oi (ok k l h))) x)
+  row_set lo hi i q v x oi ok =
+      sym (upto_carry (λ y. set y q v) (eliminate A n a stride base i) (eliminate A n a stride base i) lo hi (λ k y l h. sym (eliminate_set i k q v y oi (ok k l h))) x)
 
-  divide-set : (i q : ℕ) (v : R) (x : List R) → Off q i → divide A n a stride base i (set x q v) ≡ set (divide A n a stride base i x) q v
+  divide_set : (i q : ℕ) (v : R) (x : List R) → Off q i → divide A n a stride base i (set x q v) ≡ set (divide A n a stride base i x) q v
   unfolding Off divide
-  divide-set i q v x oi =
+  divide_set i q v x oi =
       let p = i * stride + base in
       let at = get_or-set_other x q p v (zero_of A) (λ e. oi (sym e)) in
       (λ t. set (set x q v) p (A.div (at t) (cell A n a i i))) ∙ set_comm x q p v _ oi
 
   -- the rows run from what stands in x, once all starts stand there
-  pub forward-from : 0 < stride → (start : ℕ → R) (x : List R)
-      → forward A n a stride base start x ≡ forwardFrom A n a stride base (upto 0 n (λ i y. assign A n a stride base y i (start i)) x)
-  unfolding Off forward forwardRow forwardFrom
-  forward-from some start x =
-      upto-apart (λ i. upto 0 i (eliminate A n a stride base i)) (λ i y. assign A n a stride base y i (start i)) 0 n
+  pub forward_from_lem : 0 < stride → (start : ℕ → R) (x : List R)
+      → forward A n a stride base start x ≡ forward_from A n a stride base (upto 0 n (λ i y. assign A n a stride base y i (start i)) x)
+  unfolding Off forward forward_row forward_from
+  forward_from_lem some start x =
+      upto_apart (λ i. upto 0 i (eliminate A n a stride base i)) (λ i y. assign A n a stride base y i (start i)) 0 n
       (λ i m y l h u.
-      row-set 0 i i (m * stride + base) (start m) y (stride-apart stride base i m some (λ e. omega arith))
-      (λ k z b. stride-apart stride base k m some (λ e. omega arith)))
+      row_set 0 i i (m * stride + base) (start m) y (stride_apart stride base i m some (λ e. omega arith))
+      (λ k z b. stride_apart stride base k m some (λ e. omega arith)))
       x
 
   -- what is off the whole vector is left alone
-  from-set : (q : ℕ) (v : R) (x : List R) → ((i : ℕ) → i < n → Off q i) → substituteFrom A n a stride base (set x q v) ≡ set (substituteFrom A n a stride base x) q v
-  unfolding substituteFrom forwardFrom back backRow
-  from-set q v x o =
+  from_set : (q : ℕ) (v : R) (x : List R) → ((i : ℕ) → i < n → Off q i) → substitute_from A n a stride base (set x q v) ≡ set (substitute_from A n a stride base x) q v
+  unfolding substitute_from forward_from back back_row
+  from_set q v x o =
       ap (back A n a stride base)
-      (sym (upto-carry (λ y. set y q v) (λ i. upto 0 i (eliminate A n a stride base i)) (λ i. upto 0 i (eliminate A n a stride base i)) 0 n (λ i y l h. sym (row-set 0 i i q v y (o i h) (λ k z b. o k (omega arith)))) x))
-      ∙ sym (upto-carry (λ y. set y q v) (λ t. backRow A n a stride base (n - 1 - t)) (λ t. backRow A n a stride base (n - 1 - t)) 0 n
+      (sym (upto_carry (λ y. set y q v) (λ i. upto 0 i (eliminate A n a stride base i)) (λ i. upto 0 i (eliminate A n a stride base i)) 0 n (λ i y l h. sym (row_set 0 i i q v y (o i h) (λ k z b. o k (omega arith)))) x))
+      ∙ sym (upto_carry (λ y. set y q v) (λ t. back_row A n a stride base (n - 1 - t)) (λ t. back_row A n a stride base (n - 1 - t)) 0 n
       (λ t y l h.
       let i = n - 1 - t in
-      sym (ap (divide A n a stride base i) (row-set (i + 1) n i q v y (o i (omega arith)) (λ k z b. o k b)) ∙ divide-set i q v _ (o i (omega arith))))
-      (forwardFrom A n a stride base x))
+      sym (ap (divide A n a stride base i) (row_set (i + 1) n i q v y (o i (omega arith)) (λ k z b. o k b)) ∙ divide_set i q v _ (o i (omega arith))))
+      (forward_from A n a stride base x))
 
 -- ---- solve: x[i] starts as b[p[i]]
 
@@ -100,24 +100,24 @@ module _ {R : Type 0} (A : Algebra R) (n : ℕ) (a : List R) (p : List ℕ) (b :
   abbrev start : ℕ → R
   start i = get_or b (get_or p i 0) (zero_of A)
 
-  pub solve-by : solveOf A n a p b ≡ substituteFrom A n a 1 0 (solveStarts A n p b)
-  unfolding solveOf substitute substituteFrom
-  solve-by =
-      ap (back A n a 1 0) (forward-from A n a 1 0 (omega arith) start (replicate n (zero_of A)) ∙ ap (forwardFrom A n a 1 0) written)
+  pub solve_by : solve_of A n a p b ≡ substitute_from A n a 1 0 (solve_starts A n p b)
+  unfolding solve_of substitute substitute_from
+  solve_by =
+      ap (back A n a 1 0) (forward_from_lem A n a 1 0 (omega arith) start (replicate n (zero_of A)) ∙ ap (forward_from A n a 1 0) written)
     where
       full : List R
       full = upto 0 n (λ i y. assign A n a 1 0 y i (start i)) (replicate n (zero_of A))
 
       held : (length full ≡ n) × Filled (zero_of A) start full n
       held =
-          upto-reach (λ i y. (length y ≡ n) × Filled (zero_of A) start y i) (λ i y. assign A n a 1 0 y i (start i)) 0 n (omega arith)
+          upto_reach (λ i y. (length y ≡ n) × Filled (zero_of A) start y i) (λ i y. assign A n a 1 0 y i (start i)) 0 n (omega arith)
           (λ i y l h f. let e : i * 1 + 0 ≡ i = omega arith in rw e (length-set y i (start i) ∙ f.0, filled_more (zero_of A) start y i (let z = f.0 in omega arith) f.1))
           (replicate n (zero_of A)) (length-replicate n (zero_of A), λ k h. absurd (omega arith))
 
-      written : full ≡ solveStarts A n p b
+      written : full ≡ solve_starts A n p b
       written =
           let z = held.0 in
-          filled-all (zero_of A) start full (tabulate start n 0) n (omega arith) (held.0 ∙ sym (tabulate-length start n 0)) held.1 (λ k h. tabulate-at start n 0 k (zero_of A) (omega arith) ∙ ap start (omega arith))
+          filled_all (zero_of A) start full (tabulate start n 0) n (omega arith) (held.0 ∙ sym (tabulate_length start n 0)) held.1 (λ k h. tabulate_at start n 0 k (zero_of A) (omega arith) ∙ ap start (omega arith))
 
 -- ---- inverse: element i of column j starts as one where p[i] is j, else zero
 
@@ -130,47 +130,47 @@ module _ {R : Type 0} (A : Algebra R) (n : ℕ) (a : List R) (p : List ℕ) (o :
   abbrev Started : List R → ℕ → ℕ → Type 0
   Started x i j = get_or x (i * n + j) (zero_of A) ≡ unit A n a p j i
 
-  columns-apart : (j m : ℕ) (x : List R) → j < m → m < n → substituteFrom A n a n j (starts m x) ≡ starts m (substituteFrom A n a n j x)
+  columns_apart : (j m : ℕ) (x : List R) → j < m → m < n → substitute_from A n a n j (starts m x) ≡ starts m (substitute_from A n a n j x)
   unfolding Off
-  columns-apart j m x h u =
-      upto-carry (substituteFrom A n a n j) (λ i y. assign A n a n m y i (unit A n a p m i)) (λ i y. assign A n a n m y i (unit A n a p m i)) 0 n
-      (λ i y l b. from-set A n a n j (i * n + m) (unit A n a p m i) y (λ k c. column_apart n i m k j u (omega arith) (λ e. omega arith)))
+  columns_apart j m x h u =
+      upto_carry (substitute_from A n a n j) (λ i y. assign A n a n m y i (unit A n a p m i)) (λ i y. assign A n a n m y i (unit A n a p m i)) 0 n
+      (λ i y l b. from_set A n a n j (i * n + m) (unit A n a p m i) y (λ k c. column_apart n i m k j u (omega arith) (λ e. omega arith)))
       x
 
   -- all starts written column by column
   abbrev Below : List R → ℕ → Type 0
   Below x m = (length x ≡ n * n) × ((i j : ℕ) → i < n → j < m → Started x i j)
 
-  column-below : (m : ℕ) (x : List R) → m < n → Below x m → Below (starts m x) (m + 1)
-  column-below m x h f =
+  column_below : (m : ℕ) (x : List R) → m < n → Below x m → Below (starts m x) (m + 1)
+  column_below m x h f =
       let r =
-      upto-reach (λ k y. Below y m × ((i : ℕ) → i < k → Started y i m)) (λ i y. assign A n a n m y i (unit A n a p m i)) 0 n (omega arith)
+      upto_reach (λ k y. Below y m × ((i : ℕ) → i < k → Started y i m)) (λ i y. assign A n a n m y i (unit A n a p m i)) 0 n (omega arith)
       (λ k y z b g.
       let q = k * n + m in
       let u = unit A n a p m k in (
         (length-set y q u ∙ g.0.0, λ i j hi hj. get_or-set_other y q (i * n + j) u (zero_of A) (column_apart n i j k m (omega arith) h (λ e. omega arith)) ∙ g.0.1 i j hi hj),
         below_more (λ i. Started (set y q u) i m) k
-            (λ i hi. get_or-set_other y q (i * n + m) u (zero_of A) (stride-apart n m k i (omega arith) (λ e. omega arith)) ∙ g.1 i hi)
+            (λ i hi. get_or-set_other y q (i * n + m) u (zero_of A) (stride_apart n m k i (omega arith) (λ e. omega arith)) ∙ g.1 i hi)
             (get_or-set_same y q u (zero_of A) (let t = place n k m b h in let w = g.0.0 in omega arith)),
       ))
       x (f, λ i hi. absurd (omega arith)) in
       (r.0.0, λ i j hi hj. below_more (λ c. Started (starts m x) i c) m (λ c hc. r.0.1 i c hi hc) (r.1 i hi) j hj)
 
-  all-starts : List R
-  all-starts = upto 0 n starts (replicate (n * n) (zero_of A))
+  all_starts : List R
+  all_starts = upto 0 n starts (replicate (n * n) (zero_of A))
 
-  all-started : Below all-starts n
-  unfolding all-starts
-  all-started =
-      upto-reach (λ m x. Below x m) starts 0 n (omega arith) (λ m x l h f. column-below m x h f)
+  all_started : Below all_starts n
+  unfolding all_starts
+  all_started =
+      upto_reach (λ m x. Below x m) starts 0 n (omega arith) (λ m x l h f. column_below m x h f)
       (replicate (n * n) (zero_of A)) (length-replicate (n * n) (zero_of A), λ i j hi hj. absurd (omega arith))
 
   -- and row by row, the ones alone: rows below m hold their starts, the rest are zero
   abbrev Passed : List R → ℕ → Type 0
   Passed x m = (length x ≡ n * n) × (((i : ℕ) → i < m → (j : ℕ) → j < n → Started x i j) × ((i : ℕ) → m ≤ i → i < n → (j : ℕ) → j < n → get_or x (i * n + j) (zero_of A) ≡ zero_of A))
 
-  one-put : (m : ℕ) (x : List R) → m < n → Passed x m → Passed (set x (m * n + get_or p m 0) (one_of A)) (m + 1)
-  one-put m x h f =
+  one_put : (m : ℕ) (x : List R) → m < n → Passed x m → Passed (set x (m * n + get_or p m 0) (one_of A)) (m + 1)
+  one_put m x h f =
       let c = get_or p m 0 in
       let b = order_below n p o m h in
       let other : (i j : ℕ) → (i ≡ m → ⊥) → j < n → get_or (set x (m * n + c) (one_of A)) (i * n + j) (zero_of A) ≡ get_or x (i * n + j) (zero_of A) =
@@ -190,18 +190,18 @@ module _ {R : Type 0} (A : Algebra R) (n : ℕ) (a : List R) (p : List ℕ) (o :
       here j hj (no e) =
           rw (ne_eqb _ _ e) (get_or-set_other x (m * n + get_or p m 0) (m * n + j) (one_of A) (zero_of A) (λ z. e (omega arith)) ∙ f.1.1 m (omega arith) h j hj)
 
-  units-passed : Passed (units A n p) n
+  units_passed : Passed (units A n p) n
   unfolding units store
-  units-passed =
-      upto-reach (λ m x. Passed x m) (λ i x. set x (i * n + get_or p i 0) (one_of A)) 0 n (omega arith) (λ m x l h f. one-put m x h f)
+  units_passed =
+      upto_reach (λ m x. Passed x m) (λ i x. set x (i * n + get_or p i 0) (one_of A)) 0 n (omega arith) (λ m x l h f. one_put m x h f)
       (replicate (n * n) (zero_of A))
       (length-replicate (n * n) (zero_of A), ((λ i hi. absurd (omega arith)), λ i l hi j hj. get_or-replicate (n * n) (i * n + j) (zero_of A) (zero_of A) (place n i j hi hj)))
 
-  starts-units : all-starts ≡ units A n p
-  starts-units =
-      ext_get_or (zero_of A) all-starts (units A n p) (all-started.0 ∙ sym units-passed.0)
+  starts_units : all_starts ≡ units A n p
+  starts_units =
+      ext_get_or (zero_of A) all_starts (units A n p) (all_started.0 ∙ sym units_passed.0)
       (λ q h.
-      let z = all-started.0 in
+      let z = all_started.0 in
       let b : q < n * n = omega arith in
       let some : 0 < n = positive n q b in
       let i = q / n in
@@ -209,12 +209,12 @@ module _ {R : Type 0} (A : Algebra R) (n : ℕ) (a : List R) (p : List ℕ) (o :
       let hi : i < n = (div-lt_iff_lt-mul some).1 b in
       let hj : j < n = mod-lt q some in
       let e : i * n + j ≡ q = div-add-mod' q n in
-      sym (ap (λ (k : ℕ). get_or all-starts k (zero_of A)) e) ∙ all-started.1 i j hi hj ∙ sym (units-passed.1.0 i hi j hj) ∙ ap (λ (k : ℕ). get_or (units A n p) k (zero_of A)) e)
+      sym (ap (λ (k : ℕ). get_or all_starts k (zero_of A)) e) ∙ all_started.1 i j hi hj ∙ sym (units_passed.1.0 i hi j hj) ∙ ap (λ (k : ℕ). get_or (units A n p) k (zero_of A)) e)
 
-  pub inverse-by : inverseOf A n a p ≡ upto 0 n (λ j. substituteFrom A n a n j) (units A n p)
-  unfolding inverseOf inverseColumn substitute substituteFrom all-starts
-  inverse-by =
-      upto-same (λ x. Unit {0}) (inverseColumn A n a p) (λ j x. substituteFrom A n a n j (starts j x)) 0 n
-      (λ j x l h u. (ap (back A n a n j) (forward-from A n a n j (omega arith) (unit A n a p j) x), tt)) (replicate (n * n) (zero_of A)) tt
-      ∙ upto-apart (λ j. substituteFrom A n a n j) starts 0 n (λ j m x l h u. columns-apart j m x h u) (replicate (n * n) (zero_of A))
-      ∙ ap (upto 0 n (λ j. substituteFrom A n a n j)) starts-units
+  pub inverse_by : inverse_of A n a p ≡ upto 0 n (λ j. substitute_from A n a n j) (units A n p)
+  unfolding inverse_of inverse_column substitute substitute_from all_starts
+  inverse_by =
+      upto_same (λ x. Unit {0}) (inverse_column A n a p) (λ j x. substitute_from A n a n j (starts j x)) 0 n
+      (λ j x l h u. (ap (back A n a n j) (forward_from_lem A n a n j (omega arith) (unit A n a p j) x), tt)) (replicate (n * n) (zero_of A)) tt
+      ∙ upto_apart (λ j. substitute_from A n a n j) starts 0 n (λ j m x l h u. columns_apart j m x h u) (replicate (n * n) (zero_of A))
+      ∙ ap (upto 0 n (λ j. substitute_from A n a n j)) starts_units

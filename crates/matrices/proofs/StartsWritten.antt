@@ -9,16 +9,16 @@ use Rattle.real.specs.Operations as float
 use Rattle.algebra.specs.Algebra.{Algebra, zero_of, one_of}
 use Rattle.algebra.specs.Flat.{Layout, tabulate, decode}
 use Rattle.algebra.specs.Loop.{upto}
-use Rattle.algebra.proofs.Flat.{decode-blank, tabulate-length, tabulate-at}
+use Rattle.algebra.proofs.Flat.{decode_blank, tabulate_length, tabulate_at}
 use Rattle.algebra.proofs.Cells.{holds}
 use Rattle.algebra.proofs.Laws.{Laws}
-use Rattle.matrices.specs.Inverse.{units, inverseOf}
+use Rattle.matrices.specs.Inverse.{units, inverse_of}
 use Rattle.matrices.specs.Matrix.{Square, store}
 use Rattle.orders.specs.Order.{Order}
-use Rattle.matrices.specs.Solve.{substituteFrom, solveStarts, solveOf}
-use Rattle.floats.proofs.Fill.{Filled, filled_more, filled-all}
-use Rattle.matrices.proofs.Starts.{solve-by, inverse-by}
-use Rattle.matrices.proofs.Turns.{Running, run-turn}
+use Rattle.matrices.specs.Solve.{substitute_from, solve_starts, solve_of}
+use Rattle.floats.proofs.Fill.{Filled, filled_more, filled_all}
+use Rattle.matrices.proofs.Starts.{solve_by, inverse_by}
+use Rattle.matrices.proofs.Turns.{Running, run_turn}
 
 module _ {R : Type 0} {A : Algebra R} {L : Layout R} (Q : Laws A L) where
   -- ---- solve: the starts written, then the run
@@ -34,45 +34,45 @@ module _ {R : Type 0} {A : Algebra R} {L : Layout R} (Q : Laws A L) where
   pub starting : (f : ℕ → R) (x : List Float) → Starting f x x 0
   starting f x = record { size = refl; filled = λ k h. absurd (omega arith) }
 
-  pub start-turn : (f : ℕ → R) (n : ℕ) (x₀ x x' : List Float) (i : ℕ) (u : R) → Starting f x₀ x i → i < n → length x₀ ≡ n * L.width → length x' ≡ length x → u ≡ f i → decode L x' ≡ set (decode L x) i u
+  pub start_turn : (f : ℕ → R) (n : ℕ) (x₀ x x' : List Float) (i : ℕ) (u : R) → Starting f x₀ x i → i < n → length x₀ ≡ n * L.width → length x' ≡ length x → u ≡ f i → decode L x' ≡ set (decode L x) i u
       → Starting f x₀ x' (i + 1)
-  start-turn f n x₀ x x' i u t h z s eu e = record {
+  start_turn f n x₀ x x' i u t h z s eu e = record {
     size = s ∙ t.size;
     filled = subst (λ (l : List R). Filled (zero_of A) f l (i + 1)) (sym (e ∙ ap (set (decode L x) i) eu)) (filled_more (zero_of A) f (decode L x) i (omega (arith, h, holds Q x n (t.size ∙ z))) t.filled);
   }
 
-  pub start-end : (f : ℕ → R) (n : ℕ) (x₀ x : List Float) (i : ℕ) → Starting f x₀ x i → n ≤ i → length x₀ ≡ n * L.width → decode L x ≡ tabulate f n 0
-  start-end f n x₀ x i t h z =
+  pub start_end : (f : ℕ → R) (n : ℕ) (x₀ x : List Float) (i : ℕ) → Starting f x₀ x i → n ≤ i → length x₀ ≡ n * L.width → decode L x ≡ tabulate f n 0
+  start_end f n x₀ x i t h z =
       let k = holds Q x n (t.size ∙ z) in
-      filled-all (zero_of A) f (decode L x) (tabulate f n 0) i (omega arith) (k ∙ sym (tabulate-length f n 0)) t.filled (λ j b. tabulate-at f n 0 j (zero_of A) (omega arith) ∙ ap f (omega arith))
+      filled_all (zero_of A) f (decode L x) (tabulate f n 0) i (omega arith) (k ∙ sym (tabulate_length f n 0)) t.filled (λ j b. tabulate_at f n 0 j (zero_of A) (omega arith) ∙ ap f (omega arith))
 
-  pub solved : (n : ℕ) (a b x' x'' : List Float) (p : List ℕ) → decode L x' ≡ solveStarts A n p (decode L b) → decode L x'' ≡ substituteFrom A n (decode L a) 1 0 (decode L x')
-      → decode L x'' ≡ solveOf A n (decode L a) p (decode L b)
-  solved n a b x' x'' p e f = f ∙ ap (substituteFrom A n (decode L a) 1 0) e ∙ sym (solve-by A n (decode L a) p (decode L b))
+  pub solved : (n : ℕ) (a b x' x'' : List Float) (p : List ℕ) → decode L x' ≡ solve_starts A n p (decode L b) → decode L x'' ≡ substitute_from A n (decode L a) 1 0 (decode L x')
+      → decode L x'' ≡ solve_of A n (decode L a) p (decode L b)
+  solved n a b x' x'' p e f = f ∙ ap (substitute_from A n (decode L a) 1 0) e ∙ sym (solve_by A n (decode L a) p (decode L b))
 
   -- ---- inverse: the ones and zeros written, then a run down each column
 
   -- the one of row i
-  abbrev oneInRow : ℕ → List ℕ → ℕ → List R → List R
-  oneInRow n p i x = store A n x i (get_or p i 0) (one_of A)
+  abbrev one_in_row : ℕ → List ℕ → ℕ → List R → List R
+  one_in_row n p i x = store A n x i (get_or p i 0) (one_of A)
 
   abbrev pub Ones : ℕ → List ℕ → List Float → List Float → ℕ → Type 0
-  Ones n p x₀ x i = Running Q (oneInRow n p) n x₀ x i (units A n p)
+  Ones n p x₀ x i = Running Q (one_in_row n p) n x₀ x i (units A n p)
 
-  pub ones-start : (n : ℕ) (p : List ℕ) (x x₁ : List Float) → Square L.width n x → x₁ ≡ replicate (length x) float.zero → Ones n p x₁ x₁ 0
+  pub ones_start : (n : ℕ) (p : List ℕ) (x x₁ : List Float) → Square L.width n x → x₁ ≡ replicate (length x) float.zero → Ones n p x₁ x₁ 0
   unfolding units
-  ones-start n p x x₁ s e = record {
+  ones_start n p x x₁ s e = record {
     size = refl;
-    rest = ap (λ (l : List R). upto 0 n (oneInRow n p) l) (ap (decode L) (e ∙ ap (λ (k : ℕ). replicate k float.zero) s.full) ∙ decode-blank L Q.lawful A Q.agrees (n * n));
+    rest = ap (λ (l : List R). upto 0 n (one_in_row n p) l) (ap (decode L) (e ∙ ap (λ (k : ℕ). replicate k float.zero) s.full) ∙ decode_blank L Q.lawful A Q.agrees (n * n));
   }
 
-  pub ones-turn : (n : ℕ) (p : List ℕ) (x₀ x x' : List Float) (i : ℕ) → Ones n p x₀ x i → i < n → length x' ≡ length x → decode L x' ≡ set (decode L x) (i * n + get_or p i 0) (one_of A)
+  pub ones_turn : (n : ℕ) (p : List ℕ) (x₀ x x' : List Float) (i : ℕ) → Ones n p x₀ x i → i < n → length x' ≡ length x → decode L x' ≡ set (decode L x) (i * n + get_or p i 0) (one_of A)
       → Ones n p x₀ x' (i + 1)
   unfolding store
-  ones-turn n p x₀ x x' i r h s e = run-turn Q (oneInRow n p) n x₀ x x' i (units A n p) r h s e
+  ones_turn n p x₀ x x' i r h s e = run_turn Q (one_in_row n p) n x₀ x x' i (units A n p) r h s e
 
   abbrev pub Inverting : ℕ → List Float → List ℕ → List Float → List Float → ℕ → Type 0
-  Inverting n a p x₀ x j = Running Q (λ k. substituteFrom A n (decode L a) n k) n x₀ x j (inverseOf A n (decode L a) p)
+  Inverting n a p x₀ x j = Running Q (λ k. substitute_from A n (decode L a) n k) n x₀ x j (inverse_of A n (decode L a) p)
 
-  pub inverse-start : (n : ℕ) (a : List Float) (p : List ℕ) (x : List Float) → Order n p → decode L x ≡ units A n p → Inverting n a p x x 0
-  inverse-start n a p x o e = record { size = refl; rest = ap (upto 0 n (λ j. substituteFrom A n (decode L a) n j)) e ∙ sym (inverse-by A n (decode L a) p o) }
+  pub inverse_start : (n : ℕ) (a : List Float) (p : List ℕ) (x : List Float) → Order n p → decode L x ≡ units A n p → Inverting n a p x x 0
+  inverse_start n a p x o e = record { size = refl; rest = ap (upto 0 n (λ j. substitute_from A n (decode L a) n j)) e ∙ sym (inverse_by A n (decode L a) p o) }

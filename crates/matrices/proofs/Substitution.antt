@@ -7,63 +7,63 @@ use lib.Ieee.{Float}
 use Rattle.algebra.specs.Algebra.{Algebra, zero_of}
 use Rattle.algebra.specs.Flat.{Layout, decode}
 use Rattle.algebra.specs.Loop.{upto}
-use Rattle.algebra.proofs.Loop.{upto_turn, upto-end}
+use Rattle.algebra.proofs.Loop.{upto_turn, upto_end}
 use Rattle.algebra.proofs.Cells.{held}
 use Rattle.algebra.proofs.Laws.{Laws}
 use Rattle.matrices.specs.Matrix.{cell}
-use Rattle.matrices.specs.Solve.{Strided, less, lessRow, lessProduct, forwardRowFrom, forwardFrom, backRow, back, substituteFrom}
-use Rattle.matrices.proofs.Inner.{forward-by, backRow-by}
+use Rattle.matrices.specs.Solve.{Strided, less, less_row, less_product, forward_row_from, forward_from, back_row, back, substitute_from}
+use Rattle.matrices.proofs.Inner.{forward_by, back_row-by}
 use Rattle.matrices.proofs.Turns.{Running}
 
 module _ {R : Type 0} {A : Algebra R} {L : Layout R} (Q : Laws A L) where
   pub forwarded : (n stride base i : ℕ) (a x x' : List Float) (u r : R) → Strided L.width n stride base x → (i * stride + base) * L.width + L.width ≤ length x
-      → u ≡ get_or (decode L x) (i * stride + base) (zero_of A) → r ≡ lessRow A n (decode L a) stride base i (decode L x) 0 i u
-      → decode L x' ≡ set (decode L x) (i * stride + base) r → decode L x' ≡ forwardRowFrom A n (decode L a) stride base i (decode L x)
+      → u ≡ get_or (decode L x) (i * stride + base) (zero_of A) → r ≡ less_row A n (decode L a) stride base i (decode L x) 0 i u
+      → decode L x' ≡ set (decode L x) (i * stride + base) r → decode L x' ≡ forward_row_from A n (decode L a) stride base i (decode L x)
   forwarded n stride base i a x x' u r s h eu er e =
-      e ∙ ap (set (decode L x) (i * stride + base)) (er ∙ ap (lessRow A n (decode L a) stride base i (decode L x) 0 i) eu)
-      ∙ sym (forward-by A n (decode L a) stride base s.some (decode L x) i (held Q x (i * stride + base) h))
+      e ∙ ap (set (decode L x) (i * stride + base)) (er ∙ ap (less_row A n (decode L a) stride base i (decode L x) 0 i) eu)
+      ∙ sym (forward_by A n (decode L a) stride base s.some (decode L x) i (held Q x (i * stride + base) h))
 
   pub backed : (n stride base i : ℕ) (a x x' : List Float) (u r v y : R) → Strided L.width n stride base x → (i * stride + base) * L.width + L.width ≤ length x
-      → u ≡ get_or (decode L x) (i * stride + base) (zero_of A) → r ≡ lessRow A n (decode L a) stride base i (decode L x) (i + 1) n u → v ≡ get_or (decode L a) (i * n + i) (zero_of A) → y ≡ A.div r v
-      → decode L x' ≡ set (decode L x) (i * stride + base) y → decode L x' ≡ backRow A n (decode L a) stride base i (decode L x)
+      → u ≡ get_or (decode L x) (i * stride + base) (zero_of A) → r ≡ less_row A n (decode L a) stride base i (decode L x) (i + 1) n u → v ≡ get_or (decode L a) (i * n + i) (zero_of A) → y ≡ A.div r v
+      → decode L x' ≡ set (decode L x) (i * stride + base) y → decode L x' ≡ back_row A n (decode L a) stride base i (decode L x)
   unfolding cell
   backed n stride base i a x x' u r v y s h eu er ev ey e =
-      e ∙ ap (set (decode L x) (i * stride + base)) (ey ∙ (λ t. A.div ((er ∙ ap (lessRow A n (decode L a) stride base i (decode L x) (i + 1) n) eu) t) (ev t)))
-      ∙ sym (backRow-by A n (decode L a) stride base s.some (decode L x) i (held Q x (i * stride + base) h))
+      e ∙ ap (set (decode L x) (i * stride + base)) (ey ∙ (λ t. A.div ((er ∙ ap (less_row A n (decode L a) stride base i (decode L x) (i + 1) n) eu) t) (ev t)))
+      ∙ sym (back_row-by A n (decode L a) stride base s.some (decode L x) i (held Q x (i * stride + base) h))
 
   -- the products of a row, taken from r
   abbrev pub Lessening : ℕ → List Float → List Float → ℕ → ℕ → ℕ → ℕ → ℕ → R → R → ℕ → Type 0
-  Lessening n a x stride base i lo hi r₀ r k = lessRow A n (decode L a) stride base i (decode L x) k hi r ≡ lessRow A n (decode L a) stride base i (decode L x) lo hi r₀
+  Lessening n a x stride base i lo hi r₀ r k = less_row A n (decode L a) stride base i (decode L x) k hi r ≡ less_row A n (decode L a) stride base i (decode L x) lo hi r₀
 
   pub lessening : (n : ℕ) (a x : List Float) (stride base i lo hi : ℕ) (r : R) → Lessening n a x stride base i lo hi r r lo
   lessening n a x stride base i lo hi r = refl
 
-  pub less-turn : (n : ℕ) (a x : List Float) (stride base i lo hi : ℕ) (r₀ r r' : R) (k : ℕ) → Lessening n a x stride base i lo hi r₀ r k → k < hi
-      → r' ≡ lessProduct A r (decode L a) (i * n + k) (decode L x) (k * stride + base) → Lessening n a x stride base i lo hi r₀ r' (k + 1)
+  pub less_turn : (n : ℕ) (a x : List Float) (stride base i lo hi : ℕ) (r₀ r r' : R) (k : ℕ) → Lessening n a x stride base i lo hi r₀ r k → k < hi
+      → r' ≡ less_product A r (decode L a) (i * n + k) (decode L x) (k * stride + base) → Lessening n a x stride base i lo hi r₀ r' (k + 1)
   unfolding less cell
-  less-turn n a x stride base i lo hi r₀ r r' k m h e = upto_turn k hi _ r r' h e m
+  less_turn n a x stride base i lo hi r₀ r r' k m h e = upto_turn k hi _ r r' h e m
 
-  pub less-end : (n : ℕ) (a x : List Float) (stride base i lo hi : ℕ) (r₀ r : R) (k : ℕ) → Lessening n a x stride base i lo hi r₀ r k → hi ≤ k
-      → r ≡ lessRow A n (decode L a) stride base i (decode L x) lo hi r₀
-  less-end n a x stride base i lo hi r₀ r k m h = upto-end k hi _ r h m
+  pub less_end : (n : ℕ) (a x : List Float) (stride base i lo hi : ℕ) (r₀ r : R) (k : ℕ) → Lessening n a x stride base i lo hi r₀ r k → hi ≤ k
+      → r ≡ less_row A n (decode L a) stride base i (decode L x) lo hi r₀
+  less_end n a x stride base i lo hi r₀ r k m h = upto_end k hi _ r h m
 
   -- every element, from the first on and from the last back
   abbrev pub Forwarding : ℕ → List Float → List Float → ℕ → ℕ → List Float → ℕ → Type 0
-  Forwarding n a x₀ stride base x i = Running Q (forwardRowFrom A n (decode L a) stride base) n x₀ x i (forwardFrom A n (decode L a) stride base (decode L x₀))
+  Forwarding n a x₀ stride base x i = Running Q (forward_row_from A n (decode L a) stride base) n x₀ x i (forward_from A n (decode L a) stride base (decode L x₀))
 
   pub forwarding : (n : ℕ) (a x : List Float) (stride base : ℕ) → Forwarding n a x stride base x 0
-  unfolding forwardFrom
+  unfolding forward_from
   forwarding n a x stride base = record { size = refl; rest = refl }
 
   abbrev pub Backing : ℕ → List Float → List Float → ℕ → ℕ → List Float → ℕ → Type 0
-  Backing n a x₀ stride base x t = Running Q (λ k. backRow A n (decode L a) stride base (n - 1 - k)) n x₀ x t (back A n (decode L a) stride base (decode L x₀))
+  Backing n a x₀ stride base x t = Running Q (λ k. back_row A n (decode L a) stride base (n - 1 - k)) n x₀ x t (back A n (decode L a) stride base (decode L x₀))
 
   pub backing : (n : ℕ) (a x : List Float) (stride base : ℕ) → Backing n a x stride base x 0
   unfolding back
   backing n a x stride base = record { size = refl; rest = refl }
 
   -- forward, then back
-  pub substituted : (n stride base : ℕ) (a x x' x'' : List Float) → decode L x' ≡ forwardFrom A n (decode L a) stride base (decode L x) → decode L x'' ≡ back A n (decode L a) stride base (decode L x')
-      → decode L x'' ≡ substituteFrom A n (decode L a) stride base (decode L x)
-  unfolding substituteFrom
+  pub substituted : (n stride base : ℕ) (a x x' x'' : List Float) → decode L x' ≡ forward_from A n (decode L a) stride base (decode L x) → decode L x'' ≡ back A n (decode L a) stride base (decode L x')
+      → decode L x'' ≡ substitute_from A n (decode L a) stride base (decode L x)
+  unfolding substitute_from
   substituted n stride base a x x' x'' e f = f ∙ ap (back A n (decode L a) stride base) e

@@ -3,17 +3,17 @@ use Rattle.std.specs.Prelude.{ℕ, cond, List}
 use Rattle.algebra.specs.Algebra.{Algebra, one_of}
 use Rattle.algebra.specs.Loop.{upto}
 use Rattle.matrices.specs.Matrix.{cell}
-use Rattle.orders.specs.Order.{isOdd}
+use Rattle.orders.specs.Order.{is_odd}
 
 -- negated where the count is odd
 abbrev pub signed : {R : Type 0} → Algebra R → ℕ → R → R
-signed A swaps x = cond (isOdd swaps) (A.neg x) x
+signed A swaps x = cond (is_odd swaps) (A.neg x) x
 
 module _ {R : Type 0} (A : Algebra R) (n : ℕ) where
   -- the Product of the diagonal: from one, left to right
-  unfoldable pub diagonalProduct : List R → R
-  diagonalProduct a = upto 0 n (λ i x. A.mul x (cell A n a i i)) (one_of A)
+  unfoldable pub diagonal_product : List R → R
+  diagonal_product a = upto 0 n (λ i x. A.mul x (cell A n a i i)) (one_of A)
 
   -- with its sign
-  unfoldable pub determinantOf : List R → ℕ → R
-  determinantOf a swaps = signed A swaps (diagonalProduct a)
+  unfoldable pub determinant_of : List R → ℕ → R
+  determinant_of a swaps = signed A swaps (diagonal_product a)

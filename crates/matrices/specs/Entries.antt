@@ -6,49 +6,49 @@ use Rattle.real.specs.Operations as float
 use Rattle.algebra.specs.Algebra.{Algebra}
 use Rattle.algebra.specs.Flat.{Layout, decode, encode}
 use Rattle.algebra.specs.Outcome.{Outcome, value, refused}
-use Rattle.matrices.specs.Lu.{Run, going, singular, luOf}
-use Rattle.matrices.specs.Solve.{solveOf}
-use Rattle.matrices.specs.Determinant.{determinantOf}
-use Rattle.matrices.specs.Inverse.{inverseOf}
-use Rattle.orders.specs.Order.{is_order, parity, isOdd, differ}
+use Rattle.matrices.specs.Lu.{Run, going, singular, lu_of}
+use Rattle.matrices.specs.Solve.{solve_of}
+use Rattle.matrices.specs.Determinant.{determinant_of}
+use Rattle.matrices.specs.Inverse.{inverse_of}
+use Rattle.orders.specs.Order.{is_order, parity, is_odd, differ}
 
 -- The first refusal that applies, by its number; 0 where none does. A record has w floats; of a lent buffer that is only measured the length is given.
 
 -- of LU. 1: n above 32; 2: a lent length is not the one wanted
-abbrev pub luRefusal : ℕ → ℕ → ℕ → ℕ → ℕ → ℕ
-luRefusal w n a factors order =
-    cond (ltb largest.n n) refusal.tooLarge
-    (cond (eqb a (n * n * w) && (eqb factors (n * n * w) && eqb order n)) 0 refusal.wrongLength)
+abbrev pub lu_refusal : ℕ → ℕ → ℕ → ℕ → ℕ → ℕ
+lu_refusal w n a factors order =
+    cond (ltb largest.n n) refusal.too_large
+    (cond (eqb a (n * n * w) && (eqb factors (n * n * w) && eqb order n)) 0 refusal.wrong_length)
 
 -- 7: the order is no permutation of 0..n-1
-abbrev pub orderRefusal : ℕ → List ℕ → ℕ
-orderRefusal n order = cond (is_order n order) 0 refusal.notAnOrder
+abbrev pub order_refusal : ℕ → List ℕ → ℕ
+order_refusal n order = cond (is_order n order) 0 refusal.not_an_order
 
 -- 8: the swap count is above 32, or of the other parity than an order that is odd or not
-abbrev pub countRefusal : Bool → ℕ → ℕ
-countRefusal odd swaps = cond (ltb largest.swaps swaps || differ (isOdd swaps) odd) refusal.wrongSwaps 0
+abbrev pub count_refusal : Bool → ℕ → ℕ
+count_refusal odd swaps = cond (ltb largest.swaps swaps || differ (is_odd swaps) odd) refusal.wrong_swaps 0
 
 -- 8, beside that order
-abbrev pub swapsRefusal : List ℕ → ℕ → ℕ
-swapsRefusal order swaps = countRefusal (parity order) swaps
+abbrev pub swaps_refusal : List ℕ → ℕ → ℕ
+swaps_refusal order swaps = count_refusal (parity order) swaps
 
 -- of solve. 1, 2, then 7
-abbrev pub solveRefusal : ℕ → ℕ → ℕ → List ℕ → ℕ → ℕ → ℕ
-solveRefusal w n factors order b x =
-    cond (ltb largest.n n) refusal.tooLarge
-    (cond (eqb factors (n * n * w) && (eqb (length order) n && (eqb b (n * w) && eqb x (n * w)))) (orderRefusal n order) refusal.wrongLength)
+abbrev pub solve_refusal : ℕ → ℕ → ℕ → List ℕ → ℕ → ℕ → ℕ
+solve_refusal w n factors order b x =
+    cond (ltb largest.n n) refusal.too_large
+    (cond (eqb factors (n * n * w) && (eqb (length order) n && (eqb b (n * w) && eqb x (n * w)))) (order_refusal n order) refusal.wrong_length)
 
 -- of inverse. 1, 2, then 7
-abbrev pub inverseRefusal : ℕ → ℕ → ℕ → List ℕ → ℕ → ℕ
-inverseRefusal w n factors order out =
-    cond (ltb largest.n n) refusal.tooLarge
-    (cond (eqb factors (n * n * w) && (eqb (length order) n && eqb out (n * n * w))) (orderRefusal n order) refusal.wrongLength)
+abbrev pub inverse_refusal : ℕ → ℕ → ℕ → List ℕ → ℕ → ℕ
+inverse_refusal w n factors order out =
+    cond (ltb largest.n n) refusal.too_large
+    (cond (eqb factors (n * n * w) && (eqb (length order) n && eqb out (n * n * w))) (order_refusal n order) refusal.wrong_length)
 
 -- of determinant. 1, 2, 7, then 8
-abbrev pub determinantRefusal : ℕ → ℕ → ℕ → List ℕ → ℕ → ℕ
-determinantRefusal w n factors order swaps =
-    cond (ltb largest.n n) refusal.tooLarge
-    (cond (eqb factors (n * n * w) && eqb (length order) n) (cond (is_order n order) (swapsRefusal order swaps) refusal.notAnOrder) refusal.wrongLength)
+abbrev pub determinant_refusal : ℕ → ℕ → ℕ → List ℕ → ℕ → ℕ
+determinant_refusal w n factors order swaps =
+    cond (ltb largest.n n) refusal.too_large
+    (cond (eqb factors (n * n * w) && eqb (length order) n) (cond (is_order n order) (swaps_refusal order swaps) refusal.not_an_order) refusal.wrong_length)
 
 -- what a call of LU leaves: done with the swap count or refused by a number, the column beside it, and both buffers
 pub record LuLeft : Type 0 where
@@ -57,43 +57,43 @@ pub record LuLeft : Type 0 where
   pub factors : List Float
   pub order : List ℕ
 
-abbrev pub luAnswered : Outcome ℕ → ℕ → List Float → List ℕ → LuLeft
-luAnswered r c f p = record { answer = r; column = c; factors = f; order = p }
+abbrev pub lu_answered : Outcome ℕ → ℕ → List Float → List ℕ → LuLeft
+lu_answered r c f p = record { answer = r; column = c; factors = f; order = p }
 
 -- what a call of solve or inverse leaves: done, or refused by a number, and the result's buffer
 pub record SolveLeft : Type 0 where
   pub answer : Outcome (Unit {0})
   pub result : List Float
 
-abbrev pub solveAnswered : Outcome (Unit {0}) → List Float → SolveLeft
-solveAnswered r x = record { answer = r; result = x }
+abbrev pub solve_answered : Outcome (Unit {0}) → List Float → SolveLeft
+solve_answered r x = record { answer = r; result = x }
 
 module _ {R : Type 0} (A : Algebra R) (L : Layout R) (n : ℕ) where
   -- how a run ends: 6 with its column leaves both buffers zero
-  abbrev pub luFinish : Run R → LuLeft
-  luFinish (going a p swaps) = luAnswered (value swaps) 0 (encode L a) p
-  luFinish (singular c) = luAnswered (refused refusal.singular) c (replicate (n * n * L.width) float.zero) (replicate n 0)
+  abbrev pub lu_finish : Run R → LuLeft
+  lu_finish (going a p swaps) = lu_answered (value swaps) 0 (encode L a) p
+  lu_finish (singular c) = lu_answered (refused refusal.singular) c (replicate (n * n * L.width) float.zero) (replicate n 0)
 
   -- lu(n, a, factors, order)
-  unfoldable pub luLeft : List Float → List Float → List ℕ → LuLeft
-  luLeft a factors order =
-      let number = luRefusal L.width n (length a) (length factors) (length order) in
-      cond (eqb number 0) (luFinish (luOf A n (decode L a))) (luAnswered (refused number) 0 factors order)
+  unfoldable pub lu_left : List Float → List Float → List ℕ → LuLeft
+  lu_left a factors order =
+      let number = lu_refusal L.width n (length a) (length factors) (length order) in
+      cond (eqb number 0) (lu_finish (lu_of A n (decode L a))) (lu_answered (refused number) 0 factors order)
 
   -- solve(n, factors, order, b, x)
-  unfoldable pub solveLeft : List Float → List ℕ → List Float → List Float → SolveLeft
-  solveLeft factors order b x =
-      let number = solveRefusal L.width n (length factors) order (length b) (length x) in
-      cond (eqb number 0) (solveAnswered (value tt) (encode L (solveOf A n (decode L factors) order (decode L b)))) (solveAnswered (refused number) x)
+  unfoldable pub solve_left : List Float → List ℕ → List Float → List Float → SolveLeft
+  solve_left factors order b x =
+      let number = solve_refusal L.width n (length factors) order (length b) (length x) in
+      cond (eqb number 0) (solve_answered (value tt) (encode L (solve_of A n (decode L factors) order (decode L b)))) (solve_answered (refused number) x)
 
   -- inverse(n, factors, order, out)
-  unfoldable pub inverseLeft : List Float → List ℕ → List Float → SolveLeft
-  inverseLeft factors order out =
-      let number = inverseRefusal L.width n (length factors) order (length out) in
-      cond (eqb number 0) (solveAnswered (value tt) (encode L (inverseOf A n (decode L factors) order))) (solveAnswered (refused number) out)
+  unfoldable pub inverse_left : List Float → List ℕ → List Float → SolveLeft
+  inverse_left factors order out =
+      let number = inverse_refusal L.width n (length factors) order (length out) in
+      cond (eqb number 0) (solve_answered (value tt) (encode L (inverse_of A n (decode L factors) order))) (solve_answered (refused number) out)
 
   -- determinant(n, factors, order, swaps)
-  unfoldable pub determinantLeft : List Float → List ℕ → ℕ → Outcome R
-  determinantLeft factors order swaps =
-      let number = determinantRefusal L.width n (length factors) order swaps in
-      cond (eqb number 0) (value (determinantOf A n (decode L factors) swaps)) (refused number)
+  unfoldable pub determinant_left : List Float → List ℕ → ℕ → Outcome R
+  determinant_left factors order swaps =
+      let number = determinant_refusal L.width n (length factors) order swaps in
+      cond (eqb number 0) (value (determinant_of A n (decode L factors) swaps)) (refused number)

@@ -11,12 +11,12 @@ module _ {R : Type 0} (A : Algebra R) (n : ℕ) (a : List R) (p : List ℕ) wher
   unit j i = cond (eqb (get_or p i 0) j) (one_of A) (zero_of A)
 
   -- column j
-  unfoldable pub inverseColumn : ℕ → List R → List R
-  inverseColumn j x = substitute A n a n j (unit j) x
+  unfoldable pub inverse_column : ℕ → List R → List R
+  inverse_column j x = substitute A n a n j (unit j) x
 
   -- for j in 0..n
-  unfoldable pub inverseOf : List R
-  inverseOf = upto 0 n inverseColumn (replicate (n * n) (zero_of A))
+  unfoldable pub inverse_of : List R
+  inverse_of = upto 0 n inverse_column (replicate (n * n) (zero_of A))
 
 -- the starts of all columns at once: one at row i and column p[i], else zero
 unfoldable pub units : {R : Type 0} → Algebra R → ℕ → List ℕ → List R

@@ -23,8 +23,8 @@ unfoldable pub exchange : {B : Type 0} → B → ℕ → ℕ → List B → List
 exchange d p q l = set (set l p (get_or l q d)) q (get_or l p d)
 
 -- the rows p and q exchanged, element by element, at k elements a row
-unfoldable pub exchangeRows : {B : Type 0} → B → ℕ → ℕ → ℕ → List B → List B
-exchangeRows d k p q l = upto 0 k (λ c. exchange d (p * k + c) (q * k + c)) l
+unfoldable pub exchange_rows : {B : Type 0} → B → ℕ → ℕ → ℕ → List B → List B
+exchange_rows d k p q l = upto 0 k (λ c. exchange d (p * k + c) (q * k + c)) l
 
 module _ {R : Type 0} (A : Algebra R) (n : ℕ) where
   -- a[(r, c)]

@@ -6,7 +6,7 @@ pub mod rows;
 
 ghost use Rattle.std.specs.Prelude.{◌≡◌};
 ghost use Rattle.algebra.specs.Outcome.{number_of};
-ghost use Rattle.matrices.specs.Answers.{luOutcome, luColumn, solveOutcome};
+ghost use Rattle.matrices.specs.Answers.{lu_outcome, lu_column, solve_outcome};
 
 // The best row so far for a column, with the magnitude of its real part.
 #[derive(Drop)]
@@ -32,7 +32,7 @@ pub enum LuAnswer {
 impl LuAnswer {
     // Document 01's number, 0 where the call is done.
     pub fn number(self) -> u32
-        ensures { result ≡ number_of (luOutcome self) }
+        ensures { result ≡ number_of (lu_outcome self) }
     {
         match self {
             LuAnswer::Done { swaps: _ } => 0,
@@ -42,7 +42,7 @@ impl LuAnswer {
 
     // The column beside the number, 0 unless the number is 6.
     pub fn column(self) -> usize
-        ensures { result ≡ luColumn self }
+        ensures { result ≡ lu_column self }
     {
         match self {
             LuAnswer::Done { swaps: _ } => 0,
@@ -61,7 +61,7 @@ pub enum SolveAnswer {
 impl SolveAnswer {
     // Document 01's number, 0 where the call is done.
     pub fn number(self) -> u32
-        ensures { result ≡ number_of (solveOutcome self) }
+        ensures { result ≡ number_of (solve_outcome self) }
     {
         match self {
             SolveAnswer::Done => 0,

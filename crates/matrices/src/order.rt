@@ -1,11 +1,11 @@
 // The order of the rows: 0, 1, .., cleared, exchanged.
 ghost use Rattle.std.specs.Prelude.{◌≡◌, ◌<◌, length, replicate};
 ghost use Rattle.matrices.specs.Matrix.{exchange};
-ghost use Rattle.matrices.specs.Lu.{countUp};
+ghost use Rattle.matrices.specs.Lu.{count_up};
 
 // 0, 1, .., one an entry.
 pub fn count_up(order: &mut [usize])
-    ensures { order.new ≡ countUp (length order.old) }
+    ensures { order.new ≡ count_up (length order.old) }
 {
     let mut i = 0;
     while i < order.len() {

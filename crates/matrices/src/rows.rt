@@ -2,10 +2,10 @@
 ghost use Rattle.std.specs.Prelude.{◌≡◌, ◌+◌, ◌*◌, ◌<◌, ◌≤◌, length};
 ghost use Rattle.real.specs.Operations as float;
 ghost use Rattle.algebra.specs.Algebra.{reals};
-ghost use Rattle.algebra.specs.Flat.{realParts};
-ghost use Rattle.matrices.specs.Matrix.{Square, exchangeRows};
-ghost use Rattle.matrices.specs.Lu.{better, pivotOf, bringPivotFlat};
-ghost use Rattle.matrices.specs.RunAfter.{runAfter, swapsOf};
+ghost use Rattle.algebra.specs.Flat.{real_parts};
+ghost use Rattle.matrices.specs.Matrix.{Square, exchange_rows};
+ghost use Rattle.matrices.specs.Lu.{better, pivot_of, bring_pivot_flat};
+ghost use Rattle.matrices.specs.RunAfter.{run_after, swaps_of};
 
 use super::{AfterColumn, Pivot, order};
 
@@ -25,7 +25,7 @@ fn better_row(x: f64, k: usize, b: Pivot) -> Pivot
 fn find_pivot(w: usize, n: usize, a: &[f64], i: usize) -> Pivot
     requires square { Square w n a.now }
     requires i_lt_n { i < n }
-    ensures { result ≡ pivotOf reals n (realParts w a.now) i }
+    ensures { result ≡ pivot_of reals n (real_parts w a.now) i }
 {
     let row = n * w;
     let mut at = i * row + i * w;
@@ -43,7 +43,7 @@ fn find_pivot(w: usize, n: usize, a: &[f64], i: usize) -> Pivot
 // Rows p and q exchanged, at k floats a row.
 fn exchange_rows(k: usize, a: &mut [f64], p: usize, q: usize)
     requires { (p * k + k ≤ length a.old) × (q * k + k ≤ length a.old) }
-    ensures { a.new ≡ exchangeRows float.zero k p q a.old }
+    ensures { a.new ≡ exchange_rows float.zero k p q a.old }
 {
     let x = p * k;
     let y = q * k;
@@ -67,8 +67,8 @@ pub fn bring_pivot(
     requires order_len { length order.old ≡ n }
     requires i_lt_n { i < n }
     requires swaps_le_i { swaps ≤ i }
-    ensures result_bound { swapsOf result ≤ i + 1 }
-    ensures order_after { runAfter result a.new order.new ≡ bringPivotFlat w n i a.old order.old swaps }
+    ensures result_bound { swaps_of result ≤ i + 1 }
+    ensures order_after { run_after result a.new order.new ≡ bring_pivot_flat w n i a.old order.old swaps }
 {
     let b = find_pivot(w, n, a, i);
     let magnitude = b.magnitude;

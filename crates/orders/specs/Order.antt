@@ -33,15 +33,15 @@ differ false b = b
 differ true b = not b
 
 -- whether an odd number of the list's elements are below x
-unfoldable pub oddBelow : ℕ → List ℕ → Bool
-oddBelow x [] = false
-oddBelow x (y ∷ l) = differ (ltb y x) (oddBelow x l)
+unfoldable pub odd_below : ℕ → List ℕ → Bool
+odd_below x [] = false
+odd_below x (y ∷ l) = differ (ltb y x) (odd_below x l)
 
 -- the parity: whether its inversions (an entry with a lesser one after it) are odd in number
 unfoldable pub parity : List ℕ → Bool
 parity [] = false
-parity (x ∷ l) = differ (oddBelow x l) (parity l)
+parity (x ∷ l) = differ (odd_below x l) (parity l)
 
-unfoldable pub isOdd : ℕ → Bool
-isOdd zero = false
-isOdd (suc n) = not (isOdd n)
+unfoldable pub is_odd : ℕ → Bool
+is_odd zero = false
+is_odd (suc n) = not (is_odd n)

@@ -12,13 +12,13 @@ abbrev pub mark_of : ℕ → ℕ
 mark_of x = 2 ^ x * 2 ^ 32 + (2 ^ x - 1)
 
 -- nothing has come
-abbrev pub marksNone : Marks
-marksNone = record { word = 0; inversions = 0 }
+abbrev pub marks_none : Marks
+marks_none = record { word = 0; inversions = 0 }
 
 -- x has come: it makes as many inversions as numbers above it have come, an odd number of them where bit x is set
-abbrev pub marksWith : Marks → ℕ → Marks
-marksWith m x = record { word = bit_xor m.word (mark_of x); inversions = bit_xor m.inversions (m.word / 2 ^ x) }
+abbrev pub marks_with : Marks → ℕ → Marks
+marks_with m x = record { word = bit_xor m.word (mark_of x); inversions = bit_xor m.inversions (m.word / 2 ^ x) }
 
 -- the numbers below n have come, each an odd number of times, and no others
-abbrev pub isFull : ℕ → ℕ → Bool
-isFull n word = eqb (word / 2 ^ 32) (2 ^ n - 1)
+abbrev pub is_full : ℕ → ℕ → Bool
+is_full n word = eqb (word / 2 ^ 32) (2 ^ n - 1)

@@ -3,7 +3,7 @@
 ghost use Rattle.std.specs.Prelude.{◌≡◌, ◌<◌, ◌≤◌, length};
 ghost use Rattle.refusals.specs.Largest as largest;
 ghost use Rattle.orders.specs.Order.{is_order, differ};
-ghost use Rattle.orders.specs.Walk.{marksWith, isFull};
+ghost use Rattle.orders.specs.Walk.{marks_with, is_full};
 
 // What has come of an order of numbers below 32, on a walk over it. Bit x of `word`: whether an odd number of what has come is above x; bit 32 + x: whether x
 // has come an odd number of times. Bit 0 of `inversions`: whether they are odd in number (an inversion: an entry with a lesser one after it); its other bits mean nothing.
@@ -23,7 +23,7 @@ pub fn differs(t: bool, b: bool) -> bool
 // x has come: with it as many more inversions as numbers above it have come. In the word, it changes its own bit 32 + x and those of the numbers below it.
 pub fn mark(m: Marks, x: usize) -> Marks
     requires { x < largest.n }
-    ensures { result ≡ marksWith m x }
+    ensures { result ≡ marks_with m x }
 {
     let word = m.word;
     Marks {
@@ -35,7 +35,7 @@ pub fn mark(m: Marks, x: usize) -> Marks
 // The numbers below n have come, each an odd number of times, and no others.
 pub fn is_full(n: usize, word: u64) -> bool
     requires { n ≤ largest.n }
-    ensures { result ≡ isFull n word }
+    ensures { result ≡ is_full n word }
 {
     word >> 32 == (1 << n) - 1
 }

@@ -10,7 +10,7 @@ use lib.Dec.{leb}
 use lib.Pow.{pow_pos}
 use borrow.Author.Tests.{leb-true, leb-false}
 use Rattle.real.specs.declared.root.Found.{Found}
-use Rattle.real.specs.Bits.{trialOf, fitsNext, withBit, withoutBit, next_of}
+use Rattle.real.specs.Bits.{trial_of, fits_next, with_bit, without_bit, next_of}
 
 -- The root so far, what its square leaves of n, and the digits still to come: too little is left for the last bit found to be one more, and with the bits to come
 -- the root stays below most.
@@ -49,11 +49,11 @@ within most n digits f k small =
     (omega arith, omega arith)
 
 -- the weight falls
-pub next-less : (f next : Found) → next ≡ next_of f → 0 < f.bit → next.bit < f.bit
+pub next_less : (f next : Found) → next ≡ next_of f → 0 < f.bit → next.bit < f.bit
 unfolding next_of
-next-less f next e some = let half : next.bit ≡ f.bit / 2 = ap (λ (g : Found). g.bit) e ∙ by (fitsNext f) in omega arith
+next_less f next e some = let half : next.bit ≡ f.bit / 2 = ap (λ (g : Found). g.bit) e ∙ by (fits_next f) in omega arith
   where
-    by : (t : Bool) → (cond {A = Found} t (withBit f) (withoutBit f)).bit ≡ f.bit / 2
+    by : (t : Bool) → (cond {A = Found} t (with_bit f) (without_bit f)).bit ≡ f.bit / 2
     by true = refl
     by false = refl
 
@@ -78,41 +78,41 @@ module _ (most n digits : ℕ) (f : Found) (k : Kept most n (suc digits) f) wher
   bit_is : f.bit ≡ 2 ^ digits
   bit_is = let w = k.weight in omega arith
 
-  last-is : 2 ^ suc digits ≡ 2 * f.bit
-  last-is = let w = bit_is in omega arith
+  last_is : 2 ^ suc digits ≡ 2 * f.bit
+  last_is = let w = bit_is in omega arith
 
   left_by : root * root + f.rest * (2 * f.bit) ≡ n
-  left_by = subst (λ (x : ℕ). root * root + f.rest * x ≡ n) last-is k.left
+  left_by = subst (λ (x : ℕ). root * root + f.rest * x ≡ n) last_is k.left
 
-  few-by : f.rest < 2 * root + 2 * f.bit
-  few-by = subst (λ (x : ℕ). f.rest < 2 * root + x) last-is k.few
+  few_by : f.rest < 2 * root + 2 * f.bit
+  few_by = subst (λ (x : ℕ). f.rest < 2 * root + x) last_is k.few
 
   room_by : root + 2 * f.bit ≤ most
-  room_by = subst (λ (x : ℕ). root + x ≤ most) last-is k.room
+  room_by = subst (λ (x : ℕ). root + x ≤ most) last_is k.room
 
-  pub some-bit : 0 < f.bit
-  some-bit = let w = bit_is in let p : 0 < 2 ^ digits = pow_pos digits in omega arith
+  pub some_bit : 0 < f.bit
+  some_bit = let w = bit_is in let p : 0 < 2 ^ digits = pow_pos digits in omega arith
 
   -- one bit more
   pub again : Kept most n digits (next_of f)
   unfolding next_of
-  again = by (fitsNext f) refl
+  again = by (fits_next f) refl
     where
-      by : (t : Bool) → fitsNext f ≡ t → Kept most n digits (cond t (withBit f) (withoutBit f))
+      by : (t : Bool) → fits_next f ≡ t → Kept most n digits (cond t (with_bit f) (without_bit f))
       by true e =
           let fits : 2 * root + f.bit ≤ 2 * f.rest = subst (λ (x : ℕ). x + f.bit ≤ 2 * f.rest) doubled (leb-true _ _ e) in
-          let left : (root + f.bit) * (root + f.bit) + (2 * f.rest - trialOf f) * f.bit ≡ n =
+          let left : (root + f.bit) * (root + f.bit) + (2 * f.rest - trial_of f) * f.bit ≡ n =
           ap (λ (x : ℕ). (root + f.bit) * (root + f.bit) + (2 * f.rest - (x + f.bit)) * f.bit) doubled ∙ joins root f.bit f.rest n left_by fits in
           record {
             root = root + f.bit;
             doubled = omega (arith, doubled);
             weight = ap (λ (x : ℕ). x / 2) bit_is;
-            left = subst (λ (x : ℕ). (root + f.bit) * (root + f.bit) + (2 * f.rest - trialOf f) * x ≡ n) bit_is left;
-            few = subst (λ (x : ℕ). 2 * f.rest - trialOf f < 2 * (root + f.bit) + x) bit_is (omega (arith, few-by, doubled));
+            left = subst (λ (x : ℕ). (root + f.bit) * (root + f.bit) + (2 * f.rest - trial_of f) * x ≡ n) bit_is left;
+            few = subst (λ (x : ℕ). 2 * f.rest - trial_of f < 2 * (root + f.bit) + x) bit_is (omega (arith, few_by, doubled));
             room = subst (λ (x : ℕ). root + f.bit + x ≤ most) bit_is (omega (arith, room_by));
           }
       by false e =
-          let short : 2 * f.rest < trialOf f = leb-false _ _ e in
+          let short : 2 * f.rest < trial_of f = leb-false _ _ e in
           record {
             root = root;
             doubled = doubled;
@@ -123,29 +123,29 @@ module _ (most n digits : ℕ) (f : Found) (k : Kept most n (suc digits) f) wher
           }
 
   -- the trial fits exactly where the square with the bit is at most n
-  pub asks-the-square : (trialOf f ≤ 2 * f.rest → (k.root + f.bit) * (k.root + f.bit) ≤ n) × ((k.root + f.bit) * (k.root + f.bit) ≤ n → trialOf f ≤ 2 * f.rest)
-  asks-the-square = (
+  pub asks_the_square : (trial_of f ≤ 2 * f.rest → (k.root + f.bit) * (k.root + f.bit) ≤ n) × ((k.root + f.bit) * (k.root + f.bit) ≤ n → trial_of f ≤ 2 * f.rest)
+  asks_the_square = (
     (λ fits. omega (arith, joins root f.bit f.rest n left_by (subst (λ (x : ℕ). x + f.bit ≤ 2 * f.rest) doubled fits))),
-    (λ square. by square (dec_le (trialOf f) (2 * f.rest))),
+    (λ square. by square (dec_le (trial_of f) (2 * f.rest))),
   )
     where
       too_much : (root + f.bit) * (root + f.bit) ≤ n → 2 * f.rest < 2 * root + f.bit → ⊥
       too_much square more =
-          let one_more : (2 * f.rest + 1) * f.bit ≤ (2 * root + f.bit) * f.bit = mul-le-mul_right f.bit (omega arith) in
-          omega (arith, passes root f.bit f.rest n left_by, some-bit, add-mul (2 * f.rest) 1 f.bit, add-mul (2 * root) f.bit f.bit, mul_assoc 2 root f.bit)
+          let one_more_lem : (2 * f.rest + 1) * f.bit ≤ (2 * root + f.bit) * f.bit = mul-le-mul_right f.bit (omega arith) in
+          omega (arith, passes root f.bit f.rest n left_by, some_bit, add-mul (2 * f.rest) 1 f.bit, add-mul (2 * root) f.bit f.bit, mul_assoc 2 root f.bit)
 
-      by : (root + f.bit) * (root + f.bit) ≤ n → Dec (trialOf f ≤ 2 * f.rest) → trialOf f ≤ 2 * f.rest
+      by : (root + f.bit) * (root + f.bit) ≤ n → Dec (trial_of f ≤ 2 * f.rest) → trial_of f ≤ 2 * f.rest
       by square (yes fits) = fits
       by square (no g) = absurd (too_much square (subst (λ (x : ℕ). 2 * f.rest < x + f.bit) doubled (lt_of_not-le g)))
 
 -- the digits to come by the next bit's weight: none where it is 0
-pub some-come : (most n digits : ℕ) (f : Found) → Kept most n digits f → 0 < f.bit → (rest : ℕ) × (digits ≡ suc rest)
-some-come most n zero f k h = absurd (let w : f.bit ≡ 2 ^ 0 / 2 = k.weight in omega arith)
-some-come most n (suc digits) f k h = (digits, refl)
+pub some_come : (most n digits : ℕ) (f : Found) → Kept most n digits f → 0 < f.bit → (rest : ℕ) × (digits ≡ suc rest)
+some_come most n zero f k h = absurd (let w : f.bit ≡ 2 ^ 0 / 2 = k.weight in omega arith)
+some_come most n (suc digits) f k h = (digits, refl)
 
-pub none-come : (most n digits : ℕ) (f : Found) → Kept most n digits f → f.bit ≤ 0 → digits ≡ 0
-none-come most n zero f k h = refl
-none-come most n (suc digits) f k h = absurd (let p = some-bit most n digits f k in omega arith)
+pub none_come : (most n digits : ℕ) (f : Found) → Kept most n digits f → f.bit ≤ 0 → digits ≡ 0
+none_come most n zero f k h = refl
+none_come most n (suc digits) f k h = absurd (let p = some_bit most n digits f k in omega arith)
 
 -- after the last digit: the whole root and what its square leaves
 pub ended : (most n : ℕ) (f : Found) → Kept most n 0 f → (f.twice / 2 * (f.twice / 2) + f.rest ≡ n) × (f.rest ≤ 2 * (f.twice / 2)) × (f.twice / 2 < most)

@@ -42,31 +42,31 @@ module _ (a b : ℕ) (A : a < 2 ^ 63) (B : b < 2 ^ 63) where
   numbers : difference ≡ pos a -ℤ pos b
   numbers = (λ i. itself a A i -ℤ itself b B i)
 
-  pub in-word : SFits w64 difference
-  in-word = go (dec_le b a)
+  pub in_word : SFits w64 difference
+  in_word = go (dec_le b a)
     where
       go : Dec (b ≤ a) → SFits w64 difference
       go (yes h) = subst (λ (z : ℤ). SFits w64 z) (sym (numbers ∙ more a b h)) (record { sfits = omega arith })
       go (no g) = let h : a < b = lt_of_not-le g in subst (λ (z : ℤ). SFits w64 z) (sym (numbers ∙ less a b h)) (record { sfits = omega arith })
 
   short : a < b → held ≡ negsuc (b - suc a)
-  short h = to_z-of_z w64 difference in-word ∙ numbers ∙ less a b h
+  short h = to_z-of_z w64 difference in_word ∙ numbers ∙ less a b h
 
   -- b is at most a: what b leaves of a
-  pub what-is-left : b ≤ a → held ≡ pos (a - b)
-  what-is-left h = to_z-of_z w64 difference in-word ∙ numbers ∙ more a b h
+  pub what_is_left : b ≤ a → held ≡ pos (a - b)
+  what_is_left h = to_z-of_z w64 difference in_word ∙ numbers ∙ more a b h
 
   -- held to a number
   pub is_below : (k : ℕ) → lt_z held (pos k) ≡ true → a < b + k
   is_below k t = go (dec_le b a)
     where
       go : Dec (b ≤ a) → a < b + k
-      go (yes h) = omega (arith, ltb-true (a - b) k (sym (ap (λ (z : ℤ). lt_z z (pos k)) (what-is-left h)) ∙ t))
+      go (yes h) = omega (arith, ltb-true (a - b) k (sym (ap (λ (z : ℤ). lt_z z (pos k)) (what_is_left h)) ∙ t))
       go (no g) = let h : a < b = lt_of_not-le g in omega arith
 
-  pub is-not-below : (k : ℕ) → lt_z held (pos k) ≡ false → b + k ≤ a
-  is-not-below k t = go (dec_le b a)
+  pub is_not_below : (k : ℕ) → lt_z held (pos k) ≡ false → b + k ≤ a
+  is_not_below k t = go (dec_le b a)
     where
       go : Dec (b ≤ a) → b + k ≤ a
-      go (yes h) = omega (arith, ltb-false (a - b) k (sym (ap (λ (z : ℤ). lt_z z (pos k)) (what-is-left h)) ∙ t))
+      go (yes h) = omega (arith, ltb-false (a - b) k (sym (ap (λ (z : ℤ). lt_z z (pos k)) (what_is_left h)) ∙ t))
       go (no g) = absurd (true≢false (sym (ap (λ (z : ℤ). lt_z z (pos k)) (short (lt_of_not-le g))) ∙ t))

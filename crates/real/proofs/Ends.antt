@@ -11,8 +11,8 @@ use lib.Pow.{pow_pos}
 use lib.Ieee.{Float, nan, inf, fin, binary64, up, down, fits, of_bits, to_bits, is_nan, lt, eq, div}
 use lib.Ieee.Fits.{up_pos, and_l, eq→eqb}
 use lib.Ieee.Bits.{of_bits-to_bits}
-use Rattle.real.specs.Root.{rootOf}
-use Rattle.real.proofs.Patterns.{finite-bits}
+use Rattle.real.specs.Root.{root_of}
+use Rattle.real.proofs.Patterns.{finite_bits}
 
 holds : {b : Bool} → b ≡ true → T b
 holds h = subst T (sym h) tt
@@ -32,23 +32,23 @@ above_no_nan nan h = holds h
 above_no_nan (inf s) h = tt
 above_no_nan (fin s m e) h = tt
 
-not-above-itself : lt nought nought ≡ true → ⊥
+not_above_itself : lt nought nought ≡ true → ⊥
 unfolding lt of_bits
-not-above-itself h = true≢false (sym h)
+not_above_itself h = true≢false (sym h)
 
-pub above-bits : (x : Float) → Held x → lt nought x ≡ true → 0 < to_bits binary64 x
-above-bits x f h = elim (eq-zero-or-pos (to_bits binary64 x)) [
-  | inl z ↦ absurd (not-above-itself (subst (λ (y : Float). lt nought y ≡ true) (sym (of_bits-to_bits binary64 x (holds f)) ∙ ap (of_bits binary64) z) h))
+pub above_bits : (x : Float) → Held x → lt nought x ≡ true → 0 < to_bits binary64 x
+above_bits x f h = elim (eq-zero-or-pos (to_bits binary64 x)) [
+  | inl z ↦ absurd (not_above_itself (subst (λ (y : Float). lt nought y ≡ true) (sym (of_bits-to_bits binary64 x (holds f)) ∙ ap (of_bits binary64) z) h))
   | inr p ↦ p
 ]
 
-pub above-infinite : (x : Float) → Held x → lt nought x ≡ true → 9218868437227405312 ≤ to_bits binary64 x → x ≡ rootOf binary64 x
-unfolding lt of_bits rootOf
-above-infinite nan f h b = absurd (holds h)
-above-infinite (inf true) f h b = absurd (holds h)
-above-infinite (inf false) f h b = refl
-above-infinite (fin true m e) f h b = absurd (holds h)
-above-infinite (fin false m e) f h b = absurd (not-le_of_lt (finite-bits m e (holds f)) b)
+pub above_infinite : (x : Float) → Held x → lt nought x ≡ true → 9218868437227405312 ≤ to_bits binary64 x → x ≡ root_of binary64 x
+unfolding lt of_bits root_of
+above_infinite nan f h b = absurd (holds h)
+above_infinite (inf true) f h b = absurd (holds h)
+above_infinite (inf false) f h b = refl
+above_infinite (fin true m e) f h b = absurd (holds h)
+above_infinite (fin false m e) f h b = absurd (not-le_of_lt (finite_bits m e (holds f)) b)
 
 -- ---- a zero
 power : (x y : ℕ) → x ≡ 2 * y → 0 < y → x ≡ 1 → ⊥
@@ -59,9 +59,9 @@ plain (pos zero) h = refl
 plain (pos (suc a)) h = absurd (power (2 ^ suc a) (2 ^ a) (pow-succ' 2 a) (pow_pos a) (sym (mul-one (2 ^ suc a)) ∙ h))
 plain (negsuc a) h = absurd (power (2 ^ suc a) (2 ^ a) (pow-succ' 2 a) (pow_pos a) (sym (one-mul (2 ^ suc a)) ∙ h))
 
-root-zero : rootOf binary64 (fin false 0 (pos 0)) ≡ fin false 0 (pos 0)
-unfolding rootOf
-root-zero = refl
+root_zero : root_of binary64 (fin false 0 (pos 0)) ≡ fin false 0 (pos 0)
+unfolding root_of
+root_zero = refl
 
 some : (m : ℕ) (e d : ℤ) → suc m * up e * 1 ≡ 0 * 1 * down d → ⊥
 some m e d h = lt_irrefl 0 (subst (λ (x : ℕ). 0 < x) (h ∙ none (down d)) (mul-pos (mul-pos (zero-lt-suc m) (up_pos e)) (zero-lt-suc 0)))
@@ -73,14 +73,14 @@ exponent : (s : Bool) (e : ℤ) → T (fits binary64 (fin s 0 e)) → e ≡ pos 
 unfolding fits
 exponent s e h = plain e (eqb→eq (up e * down e) 1 h)
 
-pub zero-root : (x : Float) → Held x → eq x nought ≡ true → x ≡ rootOf binary64 x
+pub zero_root : (x : Float) → Held x → eq x nought ≡ true → x ≡ root_of binary64 x
 unfolding eq of_bits
-zero-root nan f h = absurd (holds h)
-zero-root (inf s) f h = absurd (holds h)
-zero-root (fin true zero e) f h = unfold rootOf in refl
-zero-root (fin true (suc m) e) f h = absurd (some m e e (eqb→eq (suc m * up e * 1) (0 * 1 * down e) (and_l (eqb (suc m * up e * 1) (0 * 1 * down e)) (false || eqb (suc m * up e * 1) 0) (holds h))))
-zero-root (fin false zero e) f h = subst (λ (d : ℤ). fin false 0 d ≡ rootOf binary64 (fin false 0 d)) (sym (exponent false e (holds f))) (sym root-zero)
-zero-root (fin false (suc m) e) f h = absurd (some m e e (eqb→eq (suc m * up e * 1) (0 * 1 * down e) (and_l (eqb (suc m * up e * 1) (0 * 1 * down e)) true (holds h))))
+zero_root nan f h = absurd (holds h)
+zero_root (inf s) f h = absurd (holds h)
+zero_root (fin true zero e) f h = unfold root_of in refl
+zero_root (fin true (suc m) e) f h = absurd (some m e e (eqb→eq (suc m * up e * 1) (0 * 1 * down e) (and_l (eqb (suc m * up e * 1) (0 * 1 * down e)) (false || eqb (suc m * up e * 1) 0) (holds h))))
+zero_root (fin false zero e) f h = subst (λ (d : ℤ). fin false 0 d ≡ root_of binary64 (fin false 0 d)) (sym (exponent false e (holds f))) (sym root_zero)
+zero_root (fin false (suc m) e) f h = absurd (some m e e (eqb→eq (suc m * up e * 1) (0 * 1 * down e) (and_l (eqb (suc m * up e * 1) (0 * 1 * down e)) true (holds h))))
 
 -- ---- neither
 quotient_is : div binary64 nought nought ≡ nan
@@ -104,16 +104,16 @@ either : (a b : Bool) → T b → T (a || b)
 either true b t = tt
 either false b t = t
 
-pub level-zero : (s : Bool) (e : ℤ) → T (eq (fin s 0 e) nought)
+pub level_zero : (s : Bool) (e : ℤ) → T (eq (fin s 0 e) nought)
 unfolding eq of_bits
-level-zero s e = join (eqb (0 * up e * 1) (0 * 1 * down e)) (beq s false || eqb (0 * up e * 1) 0) (eq→eqb (both_zero e)) (either (beq s false) (eqb (0 * up e * 1) 0) (eq→eqb (ap (λ (x : ℕ). x * 1) (zero-mul (up e)))))
+level_zero s e = join (eqb (0 * up e * 1) (0 * 1 * down e)) (beq s false || eqb (0 * up e * 1) 0) (eq→eqb (both_zero e)) (either (beq s false) (eqb (0 * up e * 1) 0) (eq→eqb (ap (λ (x : ℕ). x * 1) (zero-mul (up e)))))
 
-pub other-root : (x : Float) → lt nought x ≡ false → eq x nought ≡ false → div binary64 nought nought ≡ rootOf binary64 x
-unfolding lt of_bits rootOf
-other-root nan a b = quotient_is
-other-root (inf true) a b = quotient_is
-other-root (inf false) a b = absurd (clash tt a)
-other-root (fin true zero e) a b = absurd (clash (level-zero true e) b)
-other-root (fin true (suc m) e) a b = quotient_is
-other-root (fin false zero e) a b = absurd (clash (level-zero false e) b)
-other-root (fin false (suc m) e) a b = absurd (clash (lt→ltb (0 * 1 * down e) (suc m * up e * 1) (below_all m e)) a)
+pub other_root : (x : Float) → lt nought x ≡ false → eq x nought ≡ false → div binary64 nought nought ≡ root_of binary64 x
+unfolding lt of_bits root_of
+other_root nan a b = quotient_is
+other_root (inf true) a b = quotient_is
+other_root (inf false) a b = absurd (clash tt a)
+other_root (fin true zero e) a b = absurd (clash (level_zero true e) b)
+other_root (fin true (suc m) e) a b = quotient_is
+other_root (fin false zero e) a b = absurd (clash (level_zero false e) b)
+other_root (fin false (suc m) e) a b = absurd (clash (lt→ltb (0 * 1 * down e) (suc m * up e * 1) (below_all m e)) a)

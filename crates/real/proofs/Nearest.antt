@@ -1,4 +1,4 @@
--- At most one float is nearest to a root; and `rootOf` of a finite float above zero is it. Assumes nothing.
+-- At most one float is nearest to a root; and `root_of` of a finite float above zero is it. Assumes nothing.
 use mathlib.Core.Path.{◌≡◌, refl, sym, ap, ◌∙◌, subst}
 use mathlib.Core.Logic.{◌⊎◌, inl, inr}
 use Prim.Native.Nat.{ℕ, zero, suc, ◌+◌, ◌-◌, ◌*◌, ◌/◌, ◌%◌, ◌^◌, ◌≤◌, ◌<◌}
@@ -15,8 +15,8 @@ use lib.Ieee.Fits.{down_pos, and_l, and_r, odd-fits, two, two-le_pos}
 use lib.Ieee.Bits.{of_bits-to_bits}
 use lib.Ieee.Exact.{HasValue, units_val}
 use Rattle.real.specs.Nearest.{count, IsNearest}
-use Rattle.real.proofs.Squares.{square-suc, square-middle}
-use Rattle.real.proofs.Patterns.{units-is, to_bits_is}
+use Rattle.real.proofs.Squares.{square_suc, square_middle}
+use Rattle.real.proofs.Patterns.{units_is, to_bits_is}
 
 -- ---- one value only
 
@@ -32,14 +32,14 @@ apart a b n up down h = lt_irrefl (4 * n) (lt_of_lt_of_le (up h) (le_trans (le_o
     turn : (a b : ℕ) → a + b ≡ b + a
     turn a b = omega arith
 
-pub nearest-unique : (f : Format) (n : ℕ) (r s : Float) → IsNearest f n r → IsNearest f n s → r ≡ s
-nearest-unique f n nan s h k = absurd h
-nearest-unique f n (inf t) s h k = absurd h
-nearest-unique f n (fin true m e) s h k = absurd h
-nearest-unique f n (fin false m e) nan h k = absurd k
-nearest-unique f n (fin false m e) (inf t) h k = absurd k
-nearest-unique f n (fin false m e) (fin true j d) h k = absurd k
-nearest-unique f n (fin false m e) (fin false j d) h k =
+pub nearest_unique : (f : Format) (n : ℕ) (r s : Float) → IsNearest f n r → IsNearest f n s → r ≡ s
+nearest_unique f n nan s h k = absurd h
+nearest_unique f n (inf t) s h k = absurd h
+nearest_unique f n (fin true m e) s h k = absurd h
+nearest_unique f n (fin false m e) nan h k = absurd k
+nearest_unique f n (fin false m e) (inf t) h k = absurd k
+nearest_unique f n (fin false m e) (fin true j d) h k = absurd k
+nearest_unique f n (fin false m e) (fin false j d) h k =
     let a = count f m e in
     let b = count f j d in
     same_count f m e j d h.0 k.0
@@ -50,10 +50,10 @@ nearest-unique f n (fin false m e) (fin false j d) h k =
 -- ---- what a format holds, counted in units: a number of `prec` digits with zeros after it
 
 pow_le_back : (a l : ℕ) → 2 ^ a ≤ 2 ^ l → a ≤ l
-pow_le_back a l h = le_of_suc-le-suc (lt_of_not-le (λ (g : suc l ≤ a). not-le_of_lt (lt_of_lt_of_le (mul-two l) (pow_mono g)) h))
+pow_le_back a l h = le_of_suc-le-suc (lt_of_not-le (λ (g : suc l ≤ a). not-le_of_lt (lt_of_lt_of_le (mul_two l) (pow_mono g)) h))
   where
-    mul-two : (l : ℕ) → 2 ^ l < 2 ^ suc l
-    mul-two l = omega (arith, pow-succ' 2 l, pow_pos l)
+    mul_two : (l : ℕ) → 2 ^ l < 2 ^ suc l
+    mul_two l = omega (arith, pow-succ' 2 l, pow_pos l)
 
 place : (l : ℕ) (e : ℤ) → down e ≤ 2 ^ l → (j : ℕ) × ((m : ℕ) → m * up e * 2 ^ l / down e ≡ m * 2 ^ j)
 place l (pos a) h = (a + l, λ m. div-one (m * 2 ^ a * 2 ^ l) ∙ mul_assoc m (2 ^ a) (2 ^ l) ∙ ap (λ (x : ℕ). m * x) (sym (pow-add 2 a l)))
@@ -72,10 +72,10 @@ unfolding fits
 counted f zero e h = (0, 0, pow_pos (prec f), nothing (up e) (2 ^ low f) (down e) (down_pos e))
   where
     nothing : (u l d : ℕ) → 0 < d → 0 * u * l / d ≡ 0 * 2 ^ 0
-    nothing u l d p = ap (λ (x : ℕ). x * l / d) (zero-by u) ∙ ap (λ (x : ℕ). x / d) (zero-by l ∙ sym (zero-by d)) ∙ mul-div_cancel 0 p
+    nothing u l d p = ap (λ (x : ℕ). x * l / d) (zero_by u) ∙ ap (λ (x : ℕ). x / d) (zero_by l ∙ sym (zero_by d)) ∙ mul-div_cancel 0 p
       where
-        zero-by : (u : ℕ) → 0 * u ≡ 0
-        zero-by u = omega arith
+        zero_by : (u : ℕ) → 0 * u ≡ 0
+        zero_by u = omega arith
 counted f (suc m) e h =
     let A = eqb (suc m % 2) 1 in
     let B = ltb (suc m) (2 ^ prec f) in
@@ -120,7 +120,7 @@ module _ (h R r u : ℕ) (U : 0 < u) (lo : h * h ≤ R) (H : h ≤ r) (near : r 
       lt_of_lt_of_le (lt_of_le_of_lt (le_of_eq four) (mul-lt-mul_of_pos_right less (mul-pos U U))) (le_trans (le_of_eq (sym (scaled (2 * r + 1) u))) (square_le ((2 * r + 1) * u) (r * u + Y) wide))
     where
       less : 4 * R < (2 * r + 1) * (2 * r + 1)
-      less = omega (arith, square-middle r)
+      less = omega (arith, square_middle r)
 
       both : (r : ℕ) → (2 * r + 1) * u ≡ r * u + (r + 1) * u
       both r = omega (arith, add-mul (2 * r) 1 u, add-mul r 1 u, mul_assoc 2 r u)
@@ -135,7 +135,7 @@ module _ (h R r u : ℕ) (U : 0 < u) (lo : h * h ≤ R) (H : h ≤ r) (near : r 
       (lt_of_lt_of_le (mul-lt-mul_of_pos_right more (mul-pos U U)) (le_of_eq (sym four)))
     where
       more : (2 * s + 1) * (2 * s + 1) < 4 * R
-      more = omega (arith, square-middle s, subst (λ (x : ℕ). x * x < R + x) e near, square-suc s)
+      more = omega (arith, square_middle s, subst (λ (x : ℕ). x * x < R + x) e near, square_suc s)
 
       narrow : r * u + Y ≤ (2 * s + 1) * u
       narrow = omega (arith, ap (λ (x : ℕ). x * u) e, add-mul s 1 u, add-mul (2 * s) 1 u, mul_assoc 2 s u)
@@ -143,11 +143,11 @@ module _ (h R r u : ℕ) (U : 0 < u) (lo : h * h ≤ R) (H : h ≤ r) (near : r 
   -- a value with fewer digits, where r is the first number of as many
   first : (Y : ℕ) → r ≡ h → Y < h * u → (r * u + Y) * (r * u + Y) < 4 * (R * (u * u))
   first Y e g =
-      lt_of_lt_of_le (square-up (r * u + Y) (2 * h * u) (omega (arith, ap (λ (x : ℕ). x * u) e, mul_assoc 2 h u)))
+      lt_of_lt_of_le (square_up (r * u + Y) (2 * h * u) (omega (arith, ap (λ (x : ℕ). x * u) e, mul_assoc 2 h u)))
       (le_trans (le_of_eq (scaled (2 * h) u)) (le_trans (mul-le-mul_right (u * u) (omega (arith, lo, mul-mul-mul_comm 2 h 2 h))) (le_of_eq (sym four))))
     where
-      square-up : (a b : ℕ) → a < b → a * a < b * b
-      square-up a b l = lt_of_le_of_lt (mul-le-mul (le_of_eq refl) (le_of_lt l)) (mul-lt-mul_of_pos_right l (positive a b l))
+      square_up : (a b : ℕ) → a < b → a * a < b * b
+      square_up a b l = lt_of_le_of_lt (mul-le-mul (le_of_eq refl) (le_of_lt l)) (mul-lt-mul_of_pos_right l (positive a b l))
         where
           positive : (a b : ℕ) → a < b → 0 < b
           positive a b l = omega arith
@@ -186,21 +186,21 @@ module _ (h R r u : ℕ) (U : 0 < u) (lo : h * h ≤ R) (H : h ≤ r) (near : r 
       fore r i l = omega arith
 
 -- ---- a float by its count
-of-count : (f : Format) (n W : ℕ) (v : Float) → HasValue v false W (2 ^ low f) → T (fits f v)
+of_count : (f : Format) (n W : ℕ) (v : Float) → HasValue v false W (2 ^ low f) → T (fits f v)
     → ((y : ℕ) (d : ℤ) → T (fits f (fin false y d)) → (count f y d < W → (W + count f y d) * (W + count f y d) < 4 * n) × (W < count f y d → 4 * n < (W + count f y d) * (W + count f y d)))
     → IsNearest f n v
-of-count f n W nan v k s = absurd v
-of-count f n W (inf t) v k s = absurd v
-of-count f n W (fin true m e) v k s = absurd (true≢false v.0)
-of-count f n W (fin false m e) v k s =
+of_count f n W nan v k s = absurd v
+of_count f n W (inf t) v k s = absurd v
+of_count f n W (fin true m e) v k s = absurd (true≢false v.0)
+of_count f n W (fin false m e) v k s =
     let c : W ≡ count f m e = sym (ap (λ (x : ℕ). x / down e) v.1 ∙ mul-div_cancel W (down_pos e)) in
     (k, subst (λ (w : ℕ). (y : ℕ) (d : ℤ) → T (fits f (fin false y d)) → (count f y d < w → (w + count f y d) * (w + count f y d) < 4 * n) × (w < count f y d → 4 * n < (w + count f y d) * (w + count f y d))) c s)
 
 -- r * 2 ^ k units, for the r nearest to √R, is nearest to √(R * 4 ^ k) units
-pub units-nearest : (f : Format) (R r k : ℕ) → 2 ^ (prec f - 1) * 2 ^ (prec f - 1) ≤ R → 2 ^ (prec f - 1) ≤ r → r < 2 ^ prec f → r * r < R + r → R ≤ r * r + r → r * 2 ^ k < 2 ^ (low f + suc (emax f)) → IsNearest f (R * (2 ^ k * 2 ^ k)) (units f false r k)
-units-nearest f R r k lo H hi near far fine =
-    of-count f (R * (2 ^ k * 2 ^ k)) (r * 2 ^ k) (units f false r k) (units_val f false r k fine)
-    (subst (λ (v : Float). T (fits f v)) (sym (units-is f r k fine)) (odd-fits f (suc (prec f)) false r k (lt_of_lt_of_le hi (pow_mono (more (prec f)))) (le_of_lt hi) fine))
+pub units_nearest : (f : Format) (R r k : ℕ) → 2 ^ (prec f - 1) * 2 ^ (prec f - 1) ≤ R → 2 ^ (prec f - 1) ≤ r → r < 2 ^ prec f → r * r < R + r → R ≤ r * r + r → r * 2 ^ k < 2 ^ (low f + suc (emax f)) → IsNearest f (R * (2 ^ k * 2 ^ k)) (units f false r k)
+units_nearest f R r k lo H hi near far fine =
+    of_count f (R * (2 ^ k * 2 ^ k)) (r * 2 ^ k) (units f false r k) (units_val f false r k fine)
+    (subst (λ (v : Float). T (fits f v)) (sym (units_is f r k fine)) (odd-fits f (suc (prec f)) false r k (lt_of_lt_of_le hi (pow_mono (more (prec f)))) (le_of_lt hi) fine))
     (λ y d g.
     let c = counted f y d g in
     subst (λ (Y : ℕ). (Y < r * 2 ^ k → (r * 2 ^ k + Y) * (r * 2 ^ k + Y) < 4 * (R * (2 ^ k * 2 ^ k))) × (r * 2 ^ k < Y → 4 * (R * (2 ^ k * 2 ^ k)) < (r * 2 ^ k + Y) * (r * 2 ^ k + Y)))

@@ -14,20 +14,20 @@ use Rattle.real.proofs.float_of_word.Reads as Float-of_Word
 use Rattle.real.proofs.word_of_float.Kinds as word-of-float-k
 use Rattle.real.proofs.word_of_float.Reads as word-of-float
 
-pub sqrt-only : Only 0 sqrt-k.ps sqrt-k.r sqrt.Pre sqrt.Post
-sqrt-only κs a x y v w h p q = (p ∙ sym q, refl)
+pub sqrt_only : Only 0 sqrt-k.ps sqrt-k.r sqrt.Pre sqrt.Post
+sqrt_only κs a x y v w h p q = (p ∙ sym q, refl)
 
-pub next-bit-only : Only 0 next-bit-k.ps next-bit-k.r next_bit.Pre next_bit.Post
-next-bit-only κs a x y v w h p q = (p ∙ sym q, refl)
+pub next_bit_only : Only 0 next-bit-k.ps next-bit-k.r next_bit.Pre next_bit.Post
+next_bit_only κs a x y v w h p q = (p ∙ sym q, refl)
 
-pub is-negative-only : Only 0 is-negative-k.ps is-negative-k.r is_negative.Pre is_negative.Post
-is-negative-only κs a x y v w h p q = (p ∙ sym q, refl)
+pub is_negative_only : Only 0 is-negative-k.ps is-negative-k.r is_negative.Pre is_negative.Post
+is_negative_only κs a x y v w h p q = (p ∙ sym q, refl)
 
-pub abs-only : Only 0 abs-k.ps abs-k.r abs.Pre abs.Post
-abs-only κs a x y v w h p q = (p ∙ sym q, refl)
+pub abs_only : Only 0 abs-k.ps abs-k.r abs.Pre abs.Post
+abs_only κs a x y v w h p q = (p ∙ sym q, refl)
 
-pub float-of-word-only : Only 0 float-of-word-k.ps float-of-word-k.r Float-of_Word.Pre Float-of_Word.Post
-float-of-word-only κs a x y v w h p q = (p ∙ sym q, refl)
+pub float_of_word_only : Only 0 float-of-word-k.ps float-of-word-k.r Float-of_Word.Pre Float-of_Word.Post
+float_of_word_only κs a x y v w h p q = (p ∙ sym q, refl)
 
-pub word-of-float-only : Only 0 word-of-float-k.ps word-of-float-k.r word-of-float.Pre word-of-float.Post
-word-of-float-only κs a x y v w h p q = (p ∙ sym q, refl)
+pub word_of_float_only : Only 0 word-of-float-k.ps word-of-float-k.r word-of-float.Pre word-of-float.Post
+word_of_float_only κs a x y v w h p q = (p ∙ sym q, refl)

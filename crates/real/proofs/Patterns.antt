@@ -13,9 +13,9 @@ use lib.Ieee.Digits.{Equals, odd_val, size-le}
 use lib.Ieee.Fits.{down_pos, odd-fits, kept-lt, and_r, two, two-le_pos}
 use lib.Ieee.Bits.{is_true, is_false, cond_no, of_bits-to_bits, nan_bits_above}
 use lib.Ieee.Exact.{HasValue, odd_sign}
-use Rattle.real.specs.Root.{root, rootOf}
-use Rattle.real.proofs.Squares.{square-lt, square-suc}
-use Rattle.real.proofs.NearUnits.{pow_lt_back, kept-size, root-near}
+use Rattle.real.specs.Root.{root, root_of}
+use Rattle.real.proofs.Squares.{square_lt, square_suc}
+use Rattle.real.proofs.NearUnits.{pow_lt_back, kept_size, root_near}
 
 -- ---- what the pattern of a positive finite f64 is read as
 
@@ -71,27 +71,27 @@ finer (inf t) s w l z v = v
 finer (fin t m e) s w l z v = (v.0, sym (mul_assoc (m * up e) l z) ∙ ap (λ (y : ℕ). y * z) v.1 ∙ mul_right_comm w (down e) z)
 
 -- a * 2 ^ e of 2 ^ -1126 is q * 2 ^ x of 2 ^ -1074
-pub in-units : (q k a e : ℕ) → q * 2 ^ k * 2 ^ 52 ≡ a * 2 ^ e → HasValue (odd 53 false q k 1074) false (a * 2 ^ e) (2 ^ 1126)
-in-units q k a e h =
+pub in_units : (q k a e : ℕ) → q * 2 ^ k * 2 ^ 52 ≡ a * 2 ^ e → HasValue (odd 53 false q k 1074) false (a * 2 ^ e) (2 ^ 1126)
+in_units q k a e h =
     subst (λ (w : ℕ). HasValue (odd 53 false q k 1074) false w (2 ^ 1126)) h
     (subst (λ (l : ℕ). HasValue (odd 53 false q k 1074) false (q * 2 ^ k * 2 ^ 52) l) (sym (pow-add 2 1074 52))
     (finer (odd 53 false q k 1074) false (q * 2 ^ k) (2 ^ 1074) (2 ^ 52) (odd_sign 53 false q k 1074)))
 
 -- ---- the root of such a value
 module _ (l z t : ℕ) (T-is : t ≡ l * z) where
-  pub whole_part : (m u d w : ℕ) → 0 < d → m * u * l ≡ w * d → m * u * t / d ≡ w * z
-  whole_part m u d w D h =
+  pub whole_part_lem : (m u d w : ℕ) → 0 < d → m * u * l ≡ w * d → m * u * t / d ≡ w * z
+  whole_part_lem m u d w D h =
       ap (λ (x : ℕ). x / d) (ap (λ (x : ℕ). m * u * x) T-is ∙ sym (mul_assoc (m * u) l z) ∙ ap (λ (x : ℕ). x * z) h ∙ mul_right_comm w d z)
       ∙ mul-div_cancel (w * z) D
 
-pub root-value : (x : Float) (w : ℕ) → HasValue x false w (2 ^ 1126) → rootOf binary64 x ≡ root binary64 (w * 2 ^ 1022)
-unfolding rootOf
-root-value nan w v = absurd v
-root-value (inf true) w v = absurd v
-root-value (inf false) w v = absurd v
-root-value (fin true zero e) w v = absurd (true≢false v.0)
-root-value (fin true (suc m) e) w v = absurd (true≢false v.0)
-root-value (fin false m e) w v = ap (root binary64) (whole_part (2 ^ 1126) (2 ^ 1022) (2 ^ 2148) (pow-add 2 1126 1022) m (up e) (down e) w (down_pos e) v.1)
+pub root_value : (x : Float) (w : ℕ) → HasValue x false w (2 ^ 1126) → root_of binary64 x ≡ root binary64 (w * 2 ^ 1022)
+unfolding root_of
+root_value nan w v = absurd v
+root_value (inf true) w v = absurd v
+root_value (inf false) w v = absurd v
+root_value (fin true zero e) w v = absurd (true≢false v.0)
+root_value (fin true (suc m) e) w v = absurd (true≢false v.0)
+root_value (fin false m e) w v = ap (root binary64) (whole_part_lem (2 ^ 1126) (2 ^ 1022) (2 ^ 2148) (pow-add 2 1126 1022) m (up e) (down e) w (down_pos e) v.1)
 
 -- ---- the pattern of r * 2 ^ k units, for an r of as many digits as the format keeps
 
@@ -109,14 +109,14 @@ to_bits_odd f d s zero k = to_bits_val f s 0 (pos 0) (0 * 2 ^ k) (odd_val d s ze
 to_bits_odd f d s (suc q) k =
     to_bits_val f s (suc q / 2 ^ count_trailing_zeros d (suc q)) (minus (k + count_trailing_zeros d (suc q)) (low f)) (suc q * 2 ^ k) (odd_val d s (suc q) k (low f))
 
-pub units-is : (f : Format) (q k : ℕ) → q * 2 ^ k < 2 ^ (low f + suc (emax f)) → units f false q k ≡ odd (suc (prec f)) false q k (low f)
+pub units_is : (f : Format) (q k : ℕ) → q * 2 ^ k < 2 ^ (low f + suc (emax f)) → units f false q k ≡ odd (suc (prec f)) false q k (low f)
 unfolding units
-units-is f q k h = ap (λ (b : Bool). cond b (odd (suc (prec f)) false q k (low f)) (inf false)) (is_true (ltb (q * 2 ^ k) (2 ^ (low f + suc (emax f)))) (lt→ltb (q * 2 ^ k) (2 ^ (low f + suc (emax f))) h))
+units_is f q k h = ap (λ (b : Bool). cond b (odd (suc (prec f)) false q k (low f)) (inf false)) (is_true (ltb (q * 2 ^ k) (2 ^ (low f + suc (emax f)))) (lt→ltb (q * 2 ^ k) (2 ^ (low f + suc (emax f))) h))
 
 pub written : (f : Format) (r k : ℕ) → hid f ≤ r → r < 2 ^ prec f → r * 2 ^ k < 2 ^ (low f + suc (emax f)) → of_bits f (k * hid f + r) ≡ units f false r k
 written f r k lo hi fine =
     let v = odd (suc (prec f)) false r k (low f) in
-    let z : size (r * 2 ^ k) - prec f ≡ k = kept-size (prec f) k (r * 2 ^ k) (two-le_pos (prec f) (two f)) (mul-le-mul_right (2 ^ k) lo) (mul-lt-mul_of_pos_right hi (pow_pos k)) in
+    let z : size (r * 2 ^ k) - prec f ≡ k = kept_size (prec f) k (r * 2 ^ k) (two-le_pos (prec f) (two f)) (mul-le-mul_right (2 ^ k) lo) (mul-lt-mul_of_pos_right hi (pow_pos k)) in
     let bits : to_bits f v ≡ k * hid f + r =
     to_bits_odd f (suc (prec f)) false r k
     ∙ ap (λ (x : ℕ). 0 + x * hid f + r * 2 ^ k / 2 ^ x) z
@@ -124,7 +124,7 @@ written f r k lo hi fine =
     ∙ ap (λ (x : ℕ). k * hid f + x) (mul-div_cancel r (pow_pos k)) in
     ap (of_bits f) (sym bits)
     ∙ of_bits-to_bits f v (odd-fits f (suc (prec f)) false r k (lt_of_lt_of_le hi (pow_mono (more (prec f)))) (le_of_lt hi) fine)
-    ∙ sym (units-is f r k fine)
+    ∙ sym (units_is f r k fine)
   where
     more : (p : ℕ) → p ≤ suc p
     more p = omega arith
@@ -156,9 +156,9 @@ shift t p h =
       subst (λ (x : ℕ). t * 2 ^ (z - 11) < 2 ^ x) hi (shl_lt (suc j) (z - 11) l.3),
     )
 
-pub scale-low : (b : ℕ) → 0 < b → b / 4503599627370496 ≡ 0 →
+pub scale_low : (b : ℕ) → 0 < b → b / 4503599627370496 ≡ 0 →
     Scale b (b % 4503599627370496 * 2 ^ (count_leading_zeros 64 (b % 4503599627370496) - 11) % 18446744073709551616) (52 - (count_leading_zeros 64 (b % 4503599627370496) - 11))
-scale-low b p z =
+scale_low b p z =
     let t = b % 4503599627370496 in
     let n = count_leading_zeros 64 t - 11 in
     let s = shift t (some b p z) (mod-lt b (pow_pos 52)) in
@@ -169,7 +169,7 @@ scale-low b p z =
       s.3,
       small n,
       subst (λ (x : Float). HasValue x false (t * 2 ^ n * 2 ^ (52 - n)) (2 ^ 1126)) (sym (subnormal b z))
-          (in-units t 0 (t * 2 ^ n) (52 - n)
+          (in_units t 0 (t * 2 ^ n) (52 - n)
           (ap (λ (x : ℕ). x * 2 ^ 52) (mul-one t) ∙ ap (λ (x : ℕ). t * 2 ^ x) (sym join) ∙ ap (λ (x : ℕ). t * x) (pow-add 2 n (52 - n)) ∙ sym (mul_assoc t (2 ^ n) (2 ^ (52 - n))))),
     )
   where
@@ -182,8 +182,8 @@ scale-low b p z =
     small : (n : ℕ) → 52 - n < 2098
     small n = omega arith
 
-pub scale-high : (b : ℕ) → b < 9218868437227405312 → (b / 4503599627370496 ≡ 0 → ⊥) → Scale b (4503599627370496 + b % 4503599627370496) (b / 4503599627370496 + 51)
-scale-high b h z =
+pub scale_high : (b : ℕ) → b < 9218868437227405312 → (b / 4503599627370496 ≡ 0 → ⊥) → Scale b (4503599627370496 + b % 4503599627370496) (b / 4503599627370496 + 51)
+scale_high b h z =
     let t = b % 4503599627370496 in
     let x = b / 4503599627370496 in
     let up : 0 < x = above x z in (
@@ -191,7 +191,7 @@ scale-high b h z =
       omega arith,
       omega arith,
       subst (λ (v : Float). HasValue v false ((4503599627370496 + t) * 2 ^ (x + 51)) (2 ^ 1126)) (sym (normal b up h))
-          (in-units (4503599627370496 + t) (x - 1) (4503599627370496 + t) (x + 51)
+          (in_units (4503599627370496 + t) (x - 1) (4503599627370496 + t) (x + 51)
           (mul_assoc (4503599627370496 + t) (2 ^ (x - 1)) (2 ^ 52) ∙ ap (λ (y : ℕ). (4503599627370496 + t) * y) (sym (pow-add 2 (x - 1) 52) ∙ ap (λ (y : ℕ). 2 ^ y) (join x up)))),
     )
   where
@@ -202,11 +202,11 @@ scale-high b h z =
     join x g = omega arith
 
 -- ---- `even`
-pub even-yes : (a e : ℕ) → e % 2 ≡ 0 → a ≡ a * 2 ^ (e % 2)
-even-yes a e h = sym (ap (λ (x : ℕ). a * 2 ^ x) h ∙ mul-one a)
+pub even_yes : (a e : ℕ) → e % 2 ≡ 0 → a ≡ a * 2 ^ (e % 2)
+even_yes a e h = sym (ap (λ (x : ℕ). a * 2 ^ x) h ∙ mul-one a)
 
-pub even-no : (a e : ℕ) → (e % 2 ≡ 0 → ⊥) → 2 * a ≡ a * 2 ^ (e % 2)
-even-no a e h = mul_comm 2 a ∙ ap (λ (x : ℕ). a * 2 ^ x) (sym (one e h))
+pub even_no : (a e : ℕ) → (e % 2 ≡ 0 → ⊥) → 2 * a ≡ a * 2 ^ (e % 2)
+even_no a e h = mul_comm 2 a ∙ ap (λ (x : ℕ). a * 2 ^ x) (sym (one e h))
   where
     one : (e : ℕ) → (e % 2 ≡ 0 → ⊥) → e % 2 ≡ 1
     one e h = omega arith
@@ -227,16 +227,16 @@ module _ (b a e A r : ℕ) (s : Scale b a e) (lo : 2 ^ 52 ≤ A) (hi : A + 1 < 2
   bits_in = omega (arith, exponent)
 
   pub leading : 4503599627370496 ≤ r
-  leading = le_of_suc-le-suc (subst (λ (x : ℕ). 4503599627370496 < x) (one r) (square-lt 4503599627370496 (r + 1) (omega (arith, square-suc r))))
+  leading = le_of_suc-le-suc (subst (λ (x : ℕ). 4503599627370496 < x) (one r) (square_lt 4503599627370496 (r + 1) (omega (arith, square_suc r))))
     where
       one : (n : ℕ) → n + 1 ≡ suc n
       one n = omega arith
 
-  pub the-root : rootOf binary64 (of_bits binary64 b) ≡ units binary64 false r (485 + e / 2)
-  the-root =
-      root-value (of_bits binary64 b) (a * 2 ^ e) s.3
+  pub the_root : root_of binary64 (of_bits binary64 b) ≡ units binary64 false r (485 + e / 2)
+  the_root =
+      root_value (of_bits binary64 b) (a * 2 ^ e) s.3
       ∙ ap (root binary64) (split a e 1022 52 (485 + e / 2) (halves e) ∙ ap (λ (x : ℕ). x * 2 ^ 52 * (2 ^ (485 + e / 2) * 2 ^ (485 + e / 2))) (sym is))
-      ∙ root-near binary64 (A * 2 ^ 52) (485 + e / 2) (omega arith) (omega arith) r near far
+      ∙ root_near binary64 (A * 2 ^ 52) (485 + e / 2) (omega arith) (omega arith) r near far
     where
       halves : (e : ℕ) → e + 1022 ≡ e % 2 + 52 + (485 + e / 2 + (485 + e / 2))
       halves e = omega arith
@@ -247,10 +247,10 @@ module _ (b a e A r : ℕ) (s : Scale b a e) (lo : 2 ^ 52 ≤ A) (hi : A + 1 < 2
       within : (e : ℕ) → e < 2098 → 53 + (485 + e / 2) ≤ 2098
       within e h = omega arith
 
-  pub root-pattern : T (not (nan_bits binary64 ((485 + e / 2) * 4503599627370496 + r))) × (of_bits binary64 ((485 + e / 2) * 4503599627370496 + r) ≡ rootOf binary64 (of_bits binary64 b))
-  root-pattern = (
+  pub root_pattern : T (not (nan_bits binary64 ((485 + e / 2) * 4503599627370496 + r))) × (of_bits binary64 ((485 + e / 2) * 4503599627370496 + r) ≡ root_of binary64 (of_bits binary64 b))
+  root_pattern = (
     no_nan ((485 + e / 2) * 4503599627370496 + r) bits_in,
-    written binary64 r (485 + e / 2) leading short no_overflow ∙ sym the-root,
+    written binary64 r (485 + e / 2) leading short no_overflow ∙ sym the_root,
   )
 
 -- ---- `sqrt`: which floats are answered without a root
@@ -273,5 +273,5 @@ magnitude (suc m) e h =
     ltb→lt (suc m * up e) (2 ^ 1024 * down e)
     (and_r (eqb (suc m % 2) 1 && ltb (suc m) (2 ^ 53) && leb (down e) (2 ^ 1074)) (ltb (suc m * up e) (2 ^ 1024 * down e)) h)
 
-pub finite-bits : (m : ℕ) (e : ℤ) → T (fits binary64 (fin false m e)) → to_bits binary64 (fin false m e) < 9218868437227405312
-finite-bits m e h = bits_below m e (magnitude m e h)
+pub finite_bits : (m : ℕ) (e : ℤ) → T (fits binary64 (fin false m e)) → to_bits binary64 (fin false m e) < 9218868437227405312
+finite_bits m e h = bits_below m e (magnitude m e h)

@@ -7,22 +7,22 @@ use mathlib.Core.Bool.{Bool, true, false, not, cond}
 use lib.Dec.{T, leb, leb→le, nleb→lt}
 use lib.Ieee.{size}
 use lib.Ieee.Digits.{size-lt}
-use Rattle.real.specs.Root.{rootIn, wholeRoot}
+use Rattle.real.specs.Root.{root_in, whole_root}
 
-pub square-lt : (a b : ℕ) → a * a < b * b → a < b
-square-lt a b h = lt_of_not-le (λ (g : b ≤ a). not-le_of_lt h (mul-le-mul g g))
+pub square_lt : (a b : ℕ) → a * a < b * b → a < b
+square_lt a b h = lt_of_not-le (λ (g : b ≤ a). not-le_of_lt h (mul-le-mul g g))
 
-pub square-suc : (q : ℕ) → (q + 1) * (q + 1) ≡ q * q + 2 * q + 1
-square-suc q =
+pub square_suc : (q : ℕ) → (q + 1) * (q + 1) ≡ q * q + 2 * q + 1
+square_suc q =
     let e : (q + 1) * (q + 1) ≡ (q + 1) * q + (q + 1) * 1 = mul-add (q + 1) q 1 in
     let f : (q + 1) * q ≡ q * q + 1 * q = add-mul q 1 q in
     omega (arith, e, f)
 
-pub square-twice : (q : ℕ) → (2 * q) * (2 * q) ≡ 4 * (q * q)
-square-twice q = mul-mul-mul_comm 2 q 2 q
+pub square_twice : (q : ℕ) → (2 * q) * (2 * q) ≡ 4 * (q * q)
+square_twice q = mul-mul-mul_comm 2 q 2 q
 
-pub square-middle : (q : ℕ) → (2 * q + 1) * (2 * q + 1) ≡ 4 * (q * q) + 4 * q + 1
-square-middle q = omega (arith, square-suc (2 * q), square-twice q)
+pub square_middle : (q : ℕ) → (2 * q + 1) * (2 * q + 1) ≡ 4 * (q * q) + 4 * q + 1
+square_middle q = omega (arith, square_suc (2 * q), square_twice q)
 
 abbrev pub IsRoot : ℕ → ℕ → Type 0
 IsRoot n w = (w * w ≤ n) × (n < (w + 1) * (w + 1))
@@ -32,10 +32,10 @@ next : (n v : ℕ) → IsRoot (n / 4) v → IsRoot n (cond (leb ((2 * v + 1) * (
 next n v h = go (leb ((2 * v + 1) * (2 * v + 1)) n) (leb→le ((2 * v + 1) * (2 * v + 1)) n) (nleb→lt ((2 * v + 1) * (2 * v + 1)) n)
   where
     below : (2 * v) * (2 * v) ≤ n
-    below = omega (arith, h.0, square-twice v)
+    below = omega (arith, h.0, square_twice v)
 
     above : n < (2 * v + 1 + 1) * (2 * v + 1 + 1)
-    above = omega (arith, h.1, square-suc v, square-suc (2 * v + 1), square-middle v)
+    above = omega (arith, h.1, square_suc v, square_suc (2 * v + 1), square_middle v)
 
     go : (b : Bool) → (T b → (2 * v + 1) * (2 * v + 1) ≤ n) → (T (not b) → n < (2 * v + 1) * (2 * v + 1)) → IsRoot n (cond b (2 * v + 1) (2 * v))
     go true y n = (y tt, above)
@@ -44,15 +44,15 @@ next n v h = go (leb ((2 * v + 1) * (2 * v + 1)) n) (leb→le ((2 * v + 1) * (2 
 quarter : (n d : ℕ) → n < 4 ^ suc d → n / 4 < 4 ^ d
 quarter n d h = omega (arith, pow-succ' 4 d)
 
-rootIn-is : (d n : ℕ) → n < 4 ^ d → IsRoot n (rootIn d n)
-unfolding rootIn
-rootIn-is zero n h = (omega arith, omega arith)
-rootIn-is (suc d) n h = next n (rootIn d (n / 4)) (rootIn-is d (n / 4) (quarter n d h))
+root_in-is : (d n : ℕ) → n < 4 ^ d → IsRoot n (root_in d n)
+unfolding root_in
+root_in-is zero n h = (omega arith, omega arith)
+root_in-is (suc d) n h = next n (root_in d (n / 4)) (root_in-is d (n / 4) (quarter n d h))
 
-two-four : (d : ℕ) → 2 ^ d ≤ 4 ^ d
-two-four zero = omega arith
-two-four (suc d) = omega (arith, two-four d, pow-succ' 2 d, pow-succ' 4 d)
+two_four : (d : ℕ) → 2 ^ d ≤ 4 ^ d
+two_four zero = omega arith
+two_four (suc d) = omega (arith, two_four d, pow-succ' 2 d, pow-succ' 4 d)
 
-pub wholeRoot-is : (n : ℕ) → IsRoot n (wholeRoot n)
-unfolding wholeRoot
-wholeRoot-is n = rootIn-is (size n) n (lt_of_lt_of_le (size-lt n) (two-four (size n)))
+pub whole_root-is : (n : ℕ) → IsRoot n (whole_root n)
+unfolding whole_root
+whole_root-is n = root_in-is (size n) n (lt_of_lt_of_le (size-lt n) (two_four (size n)))

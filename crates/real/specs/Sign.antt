@@ -10,5 +10,5 @@ sign_of (inf s) = s
 sign_of (fin s m e) = s
 
 -- the float with its sign bit clear
-unfoldable pub absOf : Float → Float
-absOf x = cond (sign_of x) (neg x) x
+unfoldable pub abs_of : Float → Float
+abs_of x = cond (sign_of x) (neg x) x

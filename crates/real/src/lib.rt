@@ -4,12 +4,12 @@ pub mod root;
 ghost use Rattle.std.specs.Prelude.{◌≡◌};
 ghost use Rattle.std.specs.Float.{binary64};
 ghost use Rattle.std.specs.Float.Ieee.{of_bits, to_bits};
-ghost use Rattle.real.specs.Root.{sqrtOf};
-ghost use Rattle.real.specs.Sign.{sign_of, absOf};
+ghost use Rattle.real.specs.Root.{sqrt_of};
+ghost use Rattle.real.specs.Sign.{sign_of, abs_of};
 
 // The float nearest the exact root. -0 gives -0, +0 gives +0, +infinity itself, a negative or a NaN gives NaN.
 pub fn sqrt(x: f64) -> f64
-    ensures { result ≡ sqrtOf x }
+    ensures { result ≡ sqrt_of x }
 {
     if x > 0.0 {
         let b = f64::to_bits(x);
@@ -37,7 +37,7 @@ pub fn is_negative(x: f64) -> bool
 
 // x with the sign bit clear.
 pub fn abs(x: f64) -> f64
-    ensures { result ≡ absOf x }
+    ensures { result ≡ abs_of x }
 {
     if is_negative(x) { -x } else { x }
 }

@@ -4,7 +4,7 @@ ghost use Rattle.std.specs.Float.{binary64};
 ghost use Rattle.std.specs.Float.Ieee.{of_bits, nan_bits};
 ghost use Rattle.std.specs.Float.Ieee.Exact.{HasValue};
 ghost use Rattle.real.specs.Bits.{next_of};
-ghost use Rattle.real.specs.Root.{sqrtOf};
+ghost use Rattle.real.specs.Root.{sqrt_of};
 
 // The weight of an f64's leading digit, and of its exponent's field.
 const HIDDEN: u64 = 0x10_0000_0000_0000;
@@ -115,7 +115,7 @@ pub(crate) fn even(a: u64, e: u64) -> u64
 // The pattern of the root of a positive finite float, from the float's.
 pub(crate) fn root_bits(b: u64) -> u64
     requires { (0 < b) × (b < 0x7ff0_0000_0000_0000) }
-    ensures { T (not (nan_bits binary64 result)) × (of_bits binary64 result ≡ sqrtOf (of_bits binary64 b)) }
+    ensures { T (not (nan_bits binary64 result)) × (of_bits binary64 result ≡ sqrt_of (of_bits binary64 b)) }
 {
     let s = scale(b);
     let r = rounded_root(even(s.a, s.e));

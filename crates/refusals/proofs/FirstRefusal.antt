@@ -16,21 +16,21 @@ module _ {S : Type 0} (t : Bool) (x y r : S) where
 
 -- the same where b is what the code found of it
 module _ {S : Type 0} (t b : Bool) (x y r : S) (told : b ≡ t) where
-  pub test-true : b ≡ true → r ≡ x → r ≡ cond t x y
-  test-true h e = when_true t x y r (sym told ∙ h) e
+  pub test_true : b ≡ true → r ≡ x → r ≡ cond t x y
+  test_true h e = when_true t x y r (sym told ∙ h) e
 
-  pub test-false : b ≡ false → r ≡ y → r ≡ cond t x y
-  test-false h e = when_false t x y r (sym told ∙ h) e
+  pub test_false : b ≡ false → r ≡ y → r ≡ cond t x y
+  test_false h e = when_false t x y r (sym told ∙ h) e
 
 -- a length x where y is wanted, and the lengths after it
-pub this-off : (x y : ℕ) (later : Bool) → (x ≡ y → ⊥) → (eqb x y && later) ≡ false
-this-off x y later ne = ap (λ (t : Bool). t && later) (ne_eqb x y ne)
+pub this_off : (x y : ℕ) (later : Bool) → (x ≡ y → ⊥) → (eqb x y && later) ≡ false
+this_off x y later ne = ap (λ (t : Bool). t && later) (ne_eqb x y ne)
 
-pub later-off : (t later : Bool) → later ≡ false → (t && later) ≡ false
-later-off false later e = refl
-later-off true later e = e
+pub later_off : (t later : Bool) → later ≡ false → (t && later) ≡ false
+later_off false later e = refl
+later_off true later e = e
 
 pub all_fit : (x y : ℕ) (later : Bool) → x ≡ y → later ≡ true → (eqb x y && later) ≡ true
 all_fit x y later e l = ap (λ (t : Bool). t && later) (eq-eqb x y e) ∙ l
 
-pub ruleset tests = (when_true, when_false, this-off, later-off, all_fit, lt-ltb, le-ltb, eq-eqb, ne_eqb)
+pub ruleset tests = (when_true, when_false, this_off, later_off, all_fit, lt-ltb, le-ltb, eq-eqb, ne_eqb)

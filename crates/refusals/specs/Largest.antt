@@ -17,8 +17,8 @@ limit = 1000
 abbrev pub exponent : ℤ
 exponent = pos 1024
 
-abbrev pub leastExponent : ℤ
-leastExponent = negsuc 1023
+abbrev pub least_exponent : ℤ
+least_exponent = negsuc 1023
 
 -- of a determinant's swap count
 abbrev pub swaps : ℕ

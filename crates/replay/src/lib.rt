@@ -7,7 +7,7 @@ pub mod same;
 pub mod tally;
 
 ghost use Rattle.std.specs.Prelude.{◌≡◌};
-ghost use Rattle.replay.specs.Reading.{seenAfter};
+ghost use Rattle.replay.specs.Reading.{seen_after};
 
 // How many bytes are read of a file at once.
 pub const BUFFER: usize = 4096;
@@ -99,7 +99,7 @@ fn parted(s: Seen, b: u8) -> Seen
 
 // One byte more: a digit joins the word, and a comment goes on to the line's end.
 fn scan(s: Seen, b: u8) -> Seen
-    ensures { result ≡ seenAfter s b }
+    ensures { result ≡ seen_after s b }
 {
     let word = s.word;
     let digits = s.digits;

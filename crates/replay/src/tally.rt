@@ -1,6 +1,6 @@
 // Counting the cases of a file, and reporting the count.
 ghost use Rattle.std.specs.Prelude.{◌≡◌, false};
-ghost use Rattle.replay.specs.Tally.{oneMore, tally, countedOf, begunOf, after_of};
+ghost use Rattle.replay.specs.Tally.{one_more, tally, counted_of, begun_of, after_of};
 
 use super::{Byte, Place, Read};
 use libc::STDOUT_FILENO;
@@ -30,7 +30,7 @@ pub struct Run {
 
 // A count that reaches the greatest number of 64 bits stays there.
 fn one_more(count: u64) -> u64
-    ensures { result ≡ oneMore count }
+    ensures { result ≡ one_more count }
 {
     if count < u64::MAX { count + 1 } else { count }
 }
@@ -47,7 +47,7 @@ pub fn none() -> Tally
 
 // One case more: the same or not.
 pub fn counted(t: Tally, same: bool) -> Tally
-    ensures { result ≡ countedOf t same }
+    ensures { result ≡ counted_of t same }
 {
     let compared = one_more(t.compared);
     if same {
@@ -64,7 +64,7 @@ pub fn counted(t: Tally, same: bool) -> Tally
 
 // What comes before the cases: where it is not whole, it counts as a case that differs and no case is left.
 pub fn begun(run: Run, read: Read) -> Run
-    ensures { result ≡ begunOf run read }
+    ensures { result ≡ begun_of run read }
 {
     let place = read.place;
     let tally = run.tally;

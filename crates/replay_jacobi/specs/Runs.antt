@@ -4,20 +4,20 @@ use Rattle.std.specs.Float.{binary64, nan}
 use Rattle.std.specs.Float.Ieee.{of_bits}
 use Rattle.algebra.specs.Flat.{tabulate}
 use Rattle.algebra.specs.Outcome.{Outcome, value, refused}
-use Rattle.replay_matrices.specs.Cases.{sameFloats}
+use Rattle.replay_matrices.specs.Cases.{same_floats}
 
 -- float number k of a matrix of n by n records of two, which is x: another where its record, number k / 2, stands below the diagonal, NaN for the real part and 42
 -- (4045000000000000) for the slope
-unfoldable pub spoiledAt : ℕ → ℕ → Float → Float
-spoiledAt n k x =
+unfoldable pub spoiled_at : ℕ → ℕ → Float → Float
+spoiled_at n k x =
     cond (eqb n 0) x
     (cond (leb (k / 2 / n) (k / 2 % n)) x
     (cond (eqb (k % 2) 0) (of_bits binary64 0x7ff8000000000000) (of_bits binary64 0x4045000000000000)))
 
-unfoldable pub spoiledOf : ℕ → List Float → List Float
-spoiledOf n l = tabulate (λ k. spoiledAt n k (get_or l k nan)) (length l) 0
+unfoldable pub spoiled_of : ℕ → List Float → List Float
+spoiled_of n l = tabulate (λ k. spoiled_at n k (get_or l k nan)) (length l) 0
 
 -- done with the recorded number of sweeps, and values and vectors of the recorded words
-abbrev pub sameRun : ℕ → List ℕ → List ℕ → Outcome ℕ → List Float → List Float → Bool
-sameRun sweeps values vectors (value got) leftValues leftVectors = eqb sweeps got && (sameFloats values leftValues && sameFloats vectors leftVectors)
-sameRun sweeps values vectors (refused number) leftValues leftVectors = false
+abbrev pub same_run : ℕ → List ℕ → List ℕ → Outcome ℕ → List Float → List Float → Bool
+same_run sweeps values vectors (value got) values_left vectors_left = eqb sweeps got && (same_floats values values_left && same_floats vectors vectors_left)
+same_run sweeps values vectors (refused number) values_left vectors_left = false

@@ -2,7 +2,7 @@
 // runs are to give the file's answer.
 ghost use Rattle.std.specs.Prelude.{◌≡◌, ◌&&◌};
 ghost use Rattle.jacobi.specs.Answer.{outcome};
-ghost use Rattle.replay_jacobi.specs.Runs.{spoiledAt, spoiledOf, sameRun};
+ghost use Rattle.replay_jacobi.specs.Runs.{spoiled_at, spoiled_of, same_run};
 
 use jacobi::JacobiAnswer;
 use replay::tally::{Compared, Tally};
@@ -44,7 +44,7 @@ fn read_head(file: i32, buffer: &mut [u8; replay::BUFFER], place: Place) -> Head
 
 // Float number k of a matrix of n by n records of two, which is x: of (NaN, 42) below the diagonal.
 fn spoiled(n: usize, k: usize, x: f64) -> f64
-    ensures { result ≡ spoiledAt n k x }
+    ensures { result ≡ spoiled_at n k x }
 {
     if n == 0 {
         return x;
@@ -60,7 +60,7 @@ fn spoiled(n: usize, k: usize, x: f64) -> f64
 
 // Puts (NaN, 42) below the diagonal.
 fn spoil(n: usize, a: &mut [f64])
-    ensures { a.new ≡ spoiledOf n a.old }
+    ensures { a.new ≡ spoiled_of n a.old }
 {
     let mut k = 0usize;
     while k < a.len() {
@@ -78,7 +78,7 @@ fn same_run(
     left_values: &[f64],
     left_vectors: &[f64],
 ) -> bool
-    ensures { result ≡ sameRun sweeps values.now vectors.now (outcome answer) left_values.now left_vectors.now }
+    ensures { result ≡ same_run sweeps values.now vectors.now (outcome answer) left_values.now left_vectors.now }
 {
     let JacobiAnswer::Done { sweeps: got } = answer else {
         return false;
@@ -104,7 +104,7 @@ fn same_runs(
     values_again: &[f64],
     vectors_again: &[f64],
 ) -> bool
-    ensures { result ≡ (sameRun sweeps values.now vectors.now (outcome first) first_values.now first_vectors.now && sameRun sweeps values.now vectors.now (outcome again) values_again.now vectors_again.now) }
+    ensures { result ≡ (same_run sweeps values.now vectors.now (outcome first) first_values.now first_vectors.now && same_run sweeps values.now vectors.now (outcome again) values_again.now vectors_again.now) }
 {
     if same_run(sweeps, values, vectors, first, first_values, first_vectors) {
         return same_run(sweeps, values, vectors, again, values_again, vectors_again);

@@ -1,11 +1,11 @@
 // The entries over the record of a width: `Dual` of two floats, `HyperDual` of any other.
 ghost use Rattle.std.specs.Prelude.{◌≡◌};
-ghost use Rattle.algebra.specs.Outcome.{mapOutcome};
+ghost use Rattle.algebra.specs.Outcome.{map_outcome};
 ghost use Rattle.dual.specs.Rules as dual;
 ghost use Rattle.hyperdual.specs.Rules as hyperdual;
-ghost use Rattle.matrices.specs.Entries.{luAnswered, solveAnswered, luLeft, solveLeft, inverseLeft, determinantLeft};
-ghost use Rattle.matrices.specs.Answers.{luOutcome, luColumn, solveOutcome};
-ghost use Rattle.replay_matrices.specs.Cases.{sameOutcome};
+ghost use Rattle.matrices.specs.Entries.{lu_answered, solve_answered, lu_left, solve_left, inverse_left, determinant_left};
+ghost use Rattle.matrices.specs.Answers.{lu_outcome, lu_column, solve_outcome};
+ghost use Rattle.replay_matrices.specs.Cases.{same_outcome};
 ghost use Rattle.replay_lu.specs.Over.{over};
 
 use dual::DualAnswer;
@@ -19,7 +19,7 @@ pub(crate) fn lu(
     factors: &mut [f64],
     order: &mut [usize],
 ) -> LuAnswer
-    ensures { luAnswered (luOutcome result) (luColumn result) factors.new order.new ≡ over width (λ R A L. luLeft A L n a.now factors.old order.old) }
+    ensures { lu_answered (lu_outcome result) (lu_column result) factors.new order.new ≡ over width (λ R A L. lu_left A L n a.now factors.old order.old) }
 {
     if width == 2 {
         dual_lu::lu(n, a, factors, order)
@@ -36,7 +36,7 @@ pub(crate) fn solve(
     b: &[f64],
     x: &mut [f64],
 ) -> SolveAnswer
-    ensures { solveAnswered (solveOutcome result) x.new ≡ over width (λ R A L. solveLeft A L n factors.now order.now b.now x.old) }
+    ensures { solve_answered (solve_outcome result) x.new ≡ over width (λ R A L. solve_left A L n factors.now order.now b.now x.old) }
 {
     if width == 2 {
         dual_lu::solve(n, factors, order, b, x)
@@ -52,7 +52,7 @@ pub(crate) fn inverse(
     order: &[usize],
     out: &mut [f64],
 ) -> SolveAnswer
-    ensures { solveAnswered (solveOutcome result) out.new ≡ over width (λ R A L. inverseLeft A L n factors.now order.now out.old) }
+    ensures { solve_answered (solve_outcome result) out.new ≡ over width (λ R A L. inverse_left A L n factors.now order.now out.old) }
 {
     if width == 2 {
         dual_lu::inverse(n, factors, order, out)
@@ -63,7 +63,7 @@ pub(crate) fn inverse(
 
 // Whether the answer is a record of the file's words.
 fn same_dual(words: &[u64], answer: DualAnswer) -> bool
-    ensures { result ≡ sameOutcome words.now (mapOutcome (dual.dualLayout).parts (dual.outcome answer)) }
+    ensures { result ≡ same_outcome words.now (map_outcome (dual.dual_layout).parts (dual.outcome answer)) }
 {
     match answer {
         DualAnswer::Value(x) => replay_matrices::same_floats(words, &[x.re, x.eps]),
@@ -72,7 +72,7 @@ fn same_dual(words: &[u64], answer: DualAnswer) -> bool
 }
 
 fn same_hyperdual(words: &[u64], answer: HyperDualAnswer) -> bool
-    ensures { result ≡ sameOutcome words.now (mapOutcome (hyperdual.hyperDualLayout).parts (hyperdual.outcome answer)) }
+    ensures { result ≡ same_outcome words.now (map_outcome (hyperdual.hyper_dual_layout).parts (hyperdual.outcome answer)) }
 {
     match answer {
         HyperDualAnswer::Value(x) => {
@@ -91,7 +91,7 @@ pub(crate) fn same_determinant(
     order: &[usize],
     swaps: usize,
 ) -> bool
-    ensures { result ≡ over width (λ R A L. sameOutcome words.now (mapOutcome L.parts (determinantLeft A L n factors.now order.now swaps))) }
+    ensures { result ≡ over width (λ R A L. same_outcome words.now (map_outcome L.parts (determinant_left A L n factors.now order.now swaps))) }
 {
     if width == 2 {
         same_dual(words, dual_lu::determinant(n, factors, order, swaps))

@@ -1,7 +1,7 @@
 // What a call answers and leaves, compared with what a file has.
 ghost use Rattle.std.specs.Prelude.{◌≡◌};
-ghost use Rattle.market.specs.Answers.{marketOutcome};
-ghost use Rattle.replay_market.specs.Cases.{countIn, sameAnswer, sameSize, fullFloats, fullNumbers, samePage, sameRead, sameWrite};
+ghost use Rattle.market.specs.Answers.{market_outcome};
+ghost use Rattle.replay_market.specs.Cases.{count_in, same_answer, same_size, full_floats, full_numbers, same_page, same_read, same_write};
 
 use market::MarketAnswer;
 use replay::same;
@@ -20,7 +20,7 @@ pub(crate) struct Recorded {
 
 // What stands beside an answer's number: 0 where the call is refused.
 fn count(answer: MarketAnswer) -> u64
-    ensures { result ≡ countIn (marketOutcome answer) }
+    ensures { result ≡ count_in (market_outcome answer) }
 {
     match answer {
         MarketAnswer::Done { count } => count as u64,
@@ -30,7 +30,7 @@ fn count(answer: MarketAnswer) -> u64
 
 // Whether an answer is the recorded one.
 fn same_answer(wanted: Recorded, answer: MarketAnswer) -> bool
-    ensures { result ≡ sameAnswer wanted (marketOutcome answer) }
+    ensures { result ≡ same_answer wanted (market_outcome answer) }
 {
     let number = answer.number() as u64;
     if wanted.number != number {
@@ -41,7 +41,7 @@ fn same_answer(wanted: Recorded, answer: MarketAnswer) -> bool
 
 // Whether the size of a text has the recorded number and, where the reader was done, the recorded n.
 fn same_size(wanted: Recorded, wanted_size: u64, size: MarketAnswer) -> bool
-    ensures { result ≡ sameSize wanted wanted_size (marketOutcome size) }
+    ensures { result ≡ same_size wanted wanted_size (market_outcome size) }
 {
     let number = size.number() as u64;
     if wanted_size != number {
@@ -55,7 +55,7 @@ fn same_size(wanted: Recorded, wanted_size: u64, size: MarketAnswer) -> bool
 
 // Whether every float has the word.
 fn full_floats(word: u64, floats: &[f64]) -> bool
-    ensures { result ≡ fullFloats word floats.now }
+    ensures { result ≡ full_floats word floats.now }
 {
     let mut i = 0usize;
     while i < floats.len() {
@@ -69,7 +69,7 @@ fn full_floats(word: u64, floats: &[f64]) -> bool
 
 // Whether every byte is the one.
 fn full_bytes(byte: u8, bytes: &[u8]) -> bool
-    ensures { result ≡ fullNumbers byte bytes.now }
+    ensures { result ≡ full_numbers byte bytes.now }
 {
     let mut i = 0usize;
     while i < bytes.len() {
@@ -83,7 +83,7 @@ fn full_bytes(byte: u8, bytes: &[u8]) -> bool
 
 // Whether the bytes are the text, and zeros after it.
 fn same_page(text: &[u8], bytes: &[u8]) -> bool
-    ensures { result ≡ samePage text.now bytes.now }
+    ensures { result ≡ same_page text.now bytes.now }
 {
     let end = text.len();
     if bytes.len() < end {
@@ -106,7 +106,7 @@ pub(crate) fn same_read(
     size: MarketAnswer,
     floats: &[f64],
 ) -> bool
-    ensures { result ≡ sameRead wanted wanted_size words.now (marketOutcome answer) (marketOutcome size) floats.now }
+    ensures { result ≡ same_read wanted wanted_size words.now (market_outcome answer) (market_outcome size) floats.now }
 {
     if !same_answer(wanted, answer) {
         return false;
@@ -122,7 +122,7 @@ pub(crate) fn same_read(
 
 // Whether the writer answers what was recorded, and the lent bytes are the recorded text with zeros after it, or as they were where a refusal is recorded.
 pub(crate) fn same_write(wanted: Recorded, text: &[u8], answer: MarketAnswer, bytes: &[u8]) -> bool
-    ensures { result ≡ sameWrite wanted text.now (marketOutcome answer) bytes.now }
+    ensures { result ≡ same_write wanted text.now (market_outcome answer) bytes.now }
 {
     if !same_answer(wanted, answer) {
         return false;

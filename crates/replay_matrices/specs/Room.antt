@@ -7,8 +7,8 @@ abbrev pub widest : ℕ
 widest = 4
 
 -- those of the largest row, and of the largest matrix
-abbrev pub mostInRow : ℕ
-mostInRow = largest.n * widest
+abbrev pub most_in_row : ℕ
+most_in_row = largest.n * widest
 
-abbrev pub mostFloats : ℕ
-mostFloats = largest.n * largest.n * widest
+abbrev pub most_floats : ℕ
+most_floats = largest.n * largest.n * widest

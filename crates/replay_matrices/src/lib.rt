@@ -5,11 +5,11 @@ ghost use Rattle.std.specs.Float.{binary64};
 ghost use Rattle.std.specs.Float.Ieee.{of_bits};
 ghost use Rattle.refusals.specs.Largest as largest;
 ghost use Rattle.algebra.specs.Flat.{tabulate};
-ghost use Rattle.algebra.specs.Outcome.{mapOutcome};
-ghost use Rattle.matrices.specs.Answers.{solveOutcome};
+ghost use Rattle.algebra.specs.Outcome.{map_outcome};
+ghost use Rattle.matrices.specs.Answers.{solve_outcome};
 ghost use Rattle.replay.specs.Same.{same_numbers};
-ghost use Rattle.replay_matrices.specs.Room.{widest, mostFloats, mostInRow};
-ghost use Rattle.replay_matrices.specs.Cases.{sameFloats, zeroNumbers, zeroFloats, luNumbers, sameLu, sameOutcome};
+ghost use Rattle.replay_matrices.specs.Room.{widest, most_floats, most_in_row};
+ghost use Rattle.replay_matrices.specs.Cases.{same_floats, zero_numbers, zero_floats, lu_numbers, same_lu, same_outcome};
 
 use matrices::{LuAnswer, SolveAnswer};
 
@@ -30,7 +30,7 @@ pub const MOST_IN_ROW: usize = refusals::LARGEST_N * WIDEST;
 // How many floats a matrix of n by n records has.
 pub fn floats_in(n: usize, width: usize) -> usize
     requires { (n ≤ largest.n) × (width ≤ widest) }
-    ensures { (result ≡ n * n * width) × (result ≤ mostFloats) }
+    ensures { (result ≡ n * n * width) × (result ≤ most_floats) }
 {
     n * n * width
 }
@@ -38,7 +38,7 @@ pub fn floats_in(n: usize, width: usize) -> usize
 // How many floats a row of n records has.
 pub fn floats_in_row(n: usize, width: usize) -> usize
     requires { (n ≤ largest.n) × (width ≤ widest) }
-    ensures { (result ≡ n * width) × (result ≤ mostInRow) }
+    ensures { (result ≡ n * width) × (result ≤ most_in_row) }
 {
     n * width
 }
@@ -66,7 +66,7 @@ pub fn order_of(words: &[u64], order: &mut [usize])
 
 // Whether the words are those of the floats.
 pub fn same_floats(words: &[u64], floats: &[f64]) -> bool
-    ensures { result ≡ sameFloats words.now floats.now }
+    ensures { result ≡ same_floats words.now floats.now }
 {
     if words.len() != floats.len() {
         return false;
@@ -100,7 +100,7 @@ pub fn same_order(numbers: &[u64], order: &[usize]) -> bool
 
 // Whether every float is +0.0.
 pub fn zero_floats(floats: &[f64]) -> bool
-    ensures { result ≡ zeroFloats floats.now }
+    ensures { result ≡ zero_floats floats.now }
 {
     let mut i = 0usize;
     while i < floats.len() {
@@ -114,7 +114,7 @@ pub fn zero_floats(floats: &[f64]) -> bool
 
 // Whether every entry is 0.
 pub fn zero_order(order: &[usize]) -> bool
-    ensures { result ≡ zeroNumbers order.now }
+    ensures { result ≡ zero_numbers order.now }
 {
     let mut i = 0usize;
     while i < order.len() {
@@ -128,7 +128,7 @@ pub fn zero_order(order: &[usize]) -> bool
 
 // What LU answers, as two numbers.
 pub fn lu_numbers(answer: LuAnswer) -> Numbers
-    ensures { result ≡ luNumbers answer }
+    ensures { result ≡ lu_numbers answer }
 {
     match answer {
         LuAnswer::Done { swaps } => Numbers {
@@ -151,7 +151,7 @@ pub fn same_lu(
     order: &[usize],
     factors: &[f64],
 ) -> bool
-    ensures { result ≡ sameLu wanted numbers.now words.now (luNumbers answer) order.now factors.now }
+    ensures { result ≡ same_lu wanted numbers.now words.now (lu_numbers answer) order.now factors.now }
 {
     let got = lu_numbers(answer);
     if wanted.number != got.number {
@@ -168,7 +168,7 @@ pub fn same_lu(
 
 // Whether solve or inverse is done and leaves the file's floats.
 pub fn same_solved(words: &[u64], answer: SolveAnswer, left: &[f64]) -> bool
-    ensures { result ≡ sameOutcome words.now (mapOutcome (λ _. left.now) (solveOutcome answer)) }
+    ensures { result ≡ same_outcome words.now (map_outcome (λ _. left.now) (solve_outcome answer)) }
 {
     match answer {
         SolveAnswer::Done => same_floats(words, left),

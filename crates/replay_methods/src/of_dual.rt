@@ -1,22 +1,22 @@
 // `Dual`: the record of the words, and what its methods answer.
 ghost use Rattle.std.specs.Prelude.{◌≡◌};
-ghost use Rattle.algebra.specs.Flat.{recordAt};
-ghost use Rattle.floats.specs.Words.{floatsOf};
-ghost use Rattle.dual.specs.Rules.{dualAlgebra, dualLayout};
-ghost use Rattle.replay_matrices.specs.Cases.{sameFloats};
-ghost use Rattle.replay_methods.specs.Methods.{float_at, sameMethod};
+ghost use Rattle.algebra.specs.Flat.{record_at};
+ghost use Rattle.floats.specs.Words.{floats_of};
+ghost use Rattle.dual.specs.Rules.{dual_algebra, dual_layout};
+ghost use Rattle.replay_matrices.specs.Cases.{same_floats};
+ghost use Rattle.replay_methods.specs.Methods.{float_at, same_method};
 
 use dual::Dual;
 use floats::words;
 
 fn same_record(wanted: &[u64], x: Dual) -> bool
-    ensures { result ≡ sameFloats wanted.now (dualLayout.parts x) }
+    ensures { result ≡ same_floats wanted.now (dual_layout.parts x) }
 {
     replay_matrices::same_floats(wanted, &[x.re, x.eps])
 }
 
 fn same_method(function: u64, x: Dual, y: Dual, a: f64, wanted: &[u64]) -> bool
-    ensures { result ≡ sameMethod dualAlgebra dualLayout function x y a wanted.now }
+    ensures { result ≡ same_method dual_algebra dual_layout function x y a wanted.now }
 {
     match function {
         0x01 => same_record(wanted, Dual::zero()),
@@ -40,7 +40,7 @@ fn same_method(function: u64, x: Dual, y: Dual, a: f64, wanted: &[u64]) -> bool
 
 // Whether the method of that function, of the records that the words hold, gives the file's answer.
 pub fn same(function: u64, records: &[u64], floats: &[u64], wanted: &[u64]) -> bool
-    ensures { result ≡ sameMethod dualAlgebra dualLayout function (recordAt dualLayout (floatsOf records.now) 0) (recordAt dualLayout (floatsOf records.now) 1) (float_at floats.now 0) wanted.now }
+    ensures { result ≡ same_method dual_algebra dual_layout function (record_at dual_layout (floats_of records.now) 0) (record_at dual_layout (floats_of records.now) 1) (float_at floats.now 0) wanted.now }
 {
     let mut lent = [0.0; 4];
     words::read(records, &mut lent);

@@ -1,22 +1,22 @@
 // `Dual3`: the record of the words, and what its methods answer.
 ghost use Rattle.std.specs.Prelude.{◌≡◌};
-ghost use Rattle.algebra.specs.Flat.{recordAt};
-ghost use Rattle.floats.specs.Words.{floatsOf};
-ghost use Rattle.dual3.specs.Rules.{dual3Algebra, dual3Layout};
-ghost use Rattle.replay_matrices.specs.Cases.{sameFloats};
-ghost use Rattle.replay_methods.specs.Methods.{float_at, sameMethod};
+ghost use Rattle.algebra.specs.Flat.{record_at};
+ghost use Rattle.floats.specs.Words.{floats_of};
+ghost use Rattle.dual3.specs.Rules.{dual3_algebra, dual3_layout};
+ghost use Rattle.replay_matrices.specs.Cases.{same_floats};
+ghost use Rattle.replay_methods.specs.Methods.{float_at, same_method};
 
 use dual3::Dual3;
 use floats::words;
 
 fn same_record(wanted: &[u64], x: Dual3) -> bool
-    ensures { result ≡ sameFloats wanted.now (dual3Layout.parts x) }
+    ensures { result ≡ same_floats wanted.now (dual3_layout.parts x) }
 {
     replay_matrices::same_floats(wanted, &[x.re, x.v1, x.v2, x.v3])
 }
 
 fn same_method(function: u64, x: Dual3, y: Dual3, a: f64, wanted: &[u64]) -> bool
-    ensures { result ≡ sameMethod dual3Algebra dual3Layout function x y a wanted.now }
+    ensures { result ≡ same_method dual3_algebra dual3_layout function x y a wanted.now }
 {
     match function {
         0x01 => same_record(wanted, Dual3::zero()),
@@ -40,7 +40,7 @@ fn same_method(function: u64, x: Dual3, y: Dual3, a: f64, wanted: &[u64]) -> boo
 
 // Whether the method of that function, of the records that the words hold, gives the file's answer.
 pub fn same(function: u64, records: &[u64], floats: &[u64], wanted: &[u64]) -> bool
-    ensures { result ≡ sameMethod dual3Algebra dual3Layout function (recordAt dual3Layout (floatsOf records.now) 0) (recordAt dual3Layout (floatsOf records.now) 1) (float_at floats.now 0) wanted.now }
+    ensures { result ≡ same_method dual3_algebra dual3_layout function (record_at dual3_layout (floats_of records.now) 0) (record_at dual3_layout (floats_of records.now) 1) (float_at floats.now 0) wanted.now }
 {
     let mut lent = [0.0; 8];
     words::read(records, &mut lent);

@@ -1,16 +1,16 @@
 // `HyperHyperDual`: the record of the words, and what its methods answer.
 ghost use Rattle.std.specs.Prelude.{◌≡◌};
-ghost use Rattle.algebra.specs.Flat.{recordAt};
-ghost use Rattle.floats.specs.Words.{floatsOf};
-ghost use Rattle.hyperhyperdual.specs.Rules.{hyperHyperDualAlgebra, hyperHyperDualLayout};
-ghost use Rattle.replay_matrices.specs.Cases.{sameFloats};
-ghost use Rattle.replay_methods.specs.Methods.{float_at, sameMethod};
+ghost use Rattle.algebra.specs.Flat.{record_at};
+ghost use Rattle.floats.specs.Words.{floats_of};
+ghost use Rattle.hyperhyperdual.specs.Rules.{hyper_hyper_dual_algebra, hyper_hyper_dual_layout};
+ghost use Rattle.replay_matrices.specs.Cases.{same_floats};
+ghost use Rattle.replay_methods.specs.Methods.{float_at, same_method};
 
 use floats::words;
 use hyperhyperdual::HyperHyperDual;
 
 fn same_record(wanted: &[u64], x: HyperHyperDual) -> bool
-    ensures { result ≡ sameFloats wanted.now (hyperHyperDualLayout.parts x) }
+    ensures { result ≡ same_floats wanted.now (hyper_hyper_dual_layout.parts x) }
 {
     replay_matrices::same_floats(
         wanted,
@@ -28,7 +28,7 @@ fn same_record(wanted: &[u64], x: HyperHyperDual) -> bool
 }
 
 fn same_method(function: u64, x: HyperHyperDual, y: HyperHyperDual, a: f64, wanted: &[u64]) -> bool
-    ensures { result ≡ sameMethod hyperHyperDualAlgebra hyperHyperDualLayout function x y a wanted.now }
+    ensures { result ≡ same_method hyper_hyper_dual_algebra hyper_hyper_dual_layout function x y a wanted.now }
 {
     match function {
         0x01 => same_record(wanted, HyperHyperDual::zero()),
@@ -52,7 +52,7 @@ fn same_method(function: u64, x: HyperHyperDual, y: HyperHyperDual, a: f64, want
 
 // Whether the method of that function, of the records that the words hold, gives the file's answer.
 pub fn same(function: u64, records: &[u64], floats: &[u64], wanted: &[u64]) -> bool
-    ensures { result ≡ sameMethod hyperHyperDualAlgebra hyperHyperDualLayout function (recordAt hyperHyperDualLayout (floatsOf records.now) 0) (recordAt hyperHyperDualLayout (floatsOf records.now) 1) (float_at floats.now 0) wanted.now }
+    ensures { result ≡ same_method hyper_hyper_dual_algebra hyper_hyper_dual_layout function (record_at hyper_hyper_dual_layout (floats_of records.now) 0) (record_at hyper_hyper_dual_layout (floats_of records.now) 1) (float_at floats.now 0) wanted.now }
 {
     let mut lent = [0.0; 16];
     words::read(records, &mut lent);

@@ -6,20 +6,20 @@ use Rattle.std.specs.Float.Ieee.{to_bits}
 use Rattle.replay_outcomes.specs.declared.Outcome.{Outcome}
 
 -- the same number, the same beside it, and the same word of what was lent
-unfoldable pub sameOutcome : Outcome → Outcome → Bool
-sameOutcome wanted got = eqb wanted.number got.number && (eqb wanted.beside got.beside && eqb wanted.digest got.digest)
+unfoldable pub same_outcome : Outcome → Outcome → Bool
+same_outcome wanted got = eqb wanted.number got.number && (eqb wanted.beside got.beside && eqb wanted.digest got.digest)
 
 -- a word joins what came before it, which is turned by 33 places
 unfoldable pub joined : ℕ → ℕ → ℕ
 joined before word = bit_xor (bit_xor (before % 2 ^ 31 * 2 ^ 33) (before / 2 ^ 31)) word
 
 -- so do all of a list, the first first
-unfoldable pub joinedAll : {A : Type 0} → (A → ℕ) → ℕ → List A → ℕ
-joinedAll f before [] = before
-joinedAll f before (x ∷ l) = joinedAll f (joined before (f x)) l
+unfoldable pub joined_all : {A : Type 0} → (A → ℕ) → ℕ → List A → ℕ
+joined_all f before [] = before
+joined_all f before (x ∷ l) = joined_all f (joined before (f x)) l
 
-abbrev pub joinedWords : ℕ → List ℕ → ℕ
-joinedWords before l = joinedAll (λ (word : ℕ). word) before l
+abbrev pub joined_words : ℕ → List ℕ → ℕ
+joined_words before l = joined_all (λ (word : ℕ). word) before l
 
-abbrev pub joinedFloats : ℕ → List Float → ℕ
-joinedFloats before l = joinedAll (to_bits binary64) before l
+abbrev pub joined_floats : ℕ → List Float → ℕ
+joined_floats before l = joined_all (to_bits binary64) before l

@@ -1,6 +1,6 @@
 // What is lent holds before a call, and one word of what it holds after.
 ghost use Rattle.std.specs.Prelude.{◌≡◌};
-ghost use Rattle.replay_outcomes.specs.Outcome.{joined, joinedWords, joinedFloats};
+ghost use Rattle.replay_outcomes.specs.Outcome.{joined, joined_words, joined_floats};
 
 // The numbers of an input, one after another.
 fn next(x: u64) -> u64 {
@@ -67,7 +67,7 @@ fn join(so_far: u64, word: u64) -> u64
 }
 
 pub fn join_floats(start: u64, floats: &[f64]) -> u64
-    ensures { result ≡ joinedFloats start floats.now }
+    ensures { result ≡ joined_floats start floats.now }
 {
     let mut so_far = start;
     let mut i = 0usize;
@@ -79,7 +79,7 @@ pub fn join_floats(start: u64, floats: &[f64]) -> u64
 }
 
 pub fn join_words(start: u64, words: &[u64]) -> u64
-    ensures { result ≡ joinedWords start words.now }
+    ensures { result ≡ joined_words start words.now }
 {
     let mut so_far = start;
     let mut i = 0usize;
@@ -91,7 +91,7 @@ pub fn join_words(start: u64, words: &[u64]) -> u64
 }
 
 pub fn join_order(start: u64, order: &[usize]) -> u64
-    ensures { result ≡ joinedWords start order.now }
+    ensures { result ≡ joined_words start order.now }
 {
     let mut so_far = start;
     let mut i = 0usize;

@@ -1,6 +1,6 @@
 // A case's lengths, cut at what the program has room for, and its numbers in the exports' types.
 ghost use Rattle.std.specs.Prelude.{◌≤◌};
-ghost use Rattle.replay_outcomes.specs.Lent.{mostFloats, few};
+ghost use Rattle.replay_outcomes.specs.Lent.{most_floats, few};
 
 // The floats of a matrix of 34 by 34 records of four, and one more.
 pub const MOST_FLOATS: usize = 4625;
@@ -10,7 +10,7 @@ pub const FEW: usize = 64;
 
 // So many floats, at most.
 pub fn floats(length: u64) -> usize
-    ensures { result ≤ mostFloats }
+    ensures { result ≤ most_floats }
 {
     if length < MOST_FLOATS as u64 {
         length as usize

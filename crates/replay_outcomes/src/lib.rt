@@ -4,7 +4,7 @@ pub mod filling;
 pub mod lent;
 
 ghost use Rattle.std.specs.Prelude.{◌≡◌};
-ghost use Rattle.replay_outcomes.specs.Outcome.{sameOutcome};
+ghost use Rattle.replay_outcomes.specs.Outcome.{same_outcome};
 
 // What comes of a call: its number, what stands beside it, and one word of all that was lent to be written.
 #[derive(Drop)]
@@ -16,7 +16,7 @@ pub struct Outcome {
 
 // Whether what came of a call is what was recorded.
 pub fn same(wanted: Outcome, got: Outcome) -> bool
-    ensures { result ≡ sameOutcome wanted got }
+    ensures { result ≡ same_outcome wanted got }
 {
     if wanted.number != got.number {
         return false;

@@ -1,7 +1,7 @@
 // What a record type answers to a case, by its function's number (oracle/README.md), and whether it is what the file has.
 ghost use Rattle.std.specs.Prelude.{◌≡◌, ◌&&◌, ◌<◌, length};
-ghost use Rattle.replay_table.specs.Table.{sameAnswer};
-ghost use Rattle.replay_records.specs.Kinds.{joinedOf, answer_of, sameMethodOf};
+ghost use Rattle.replay_table.specs.Table.{same_answer};
+ghost use Rattle.replay_records.specs.Kinds.{joined_of, answer_of, same_method_of};
 
 use crate::kinds;
 use crate::kinds::Kind;
@@ -28,7 +28,7 @@ fn joined(
     out: &mut [u64],
 ) -> u32
     requires { length out.old ≡ length left.old }
-    ensures { (result, out.new) ≡ joinedOf kind function records.now (length run.old) left.old }
+    ensures { (result, out.new) ≡ joined_of kind function records.now (length run.old) left.old }
 {
     words::read(records, run);
     if function == SUM {
@@ -88,7 +88,7 @@ pub(crate) fn same_case(
     number: u64,
     out: &[u64],
 ) -> bool
-    ensures { result ≡ (sameAnswer wanted words.now number out.now && sameMethodOf kind function records.now floats.now words.now) }
+    ensures { result ≡ (same_answer wanted words.now number out.now && same_method_of kind function records.now floats.now words.now) }
 {
     if replay_table::same_answer(wanted, words, number, out) {
         return kinds::same_method(kind, function, records, floats, words);

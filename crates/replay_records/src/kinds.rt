@@ -1,7 +1,7 @@
 // The five record types, and what each is called by, as crates/exports/src/record.rt chooses it.
 ghost use Rattle.std.specs.Prelude.{◌≡◌, ◌≤◌, ◌<◌};
 ghost use Rattle.refusals.specs.Largest as largest;
-ghost use Rattle.replay_records.specs.Kinds.{by_kind, calledBy, summedBy, multipliedBy, nderivOf, sameMethodOf};
+ghost use Rattle.replay_records.specs.Kinds.{by_kind, called_by, summed_by, multiplied_by, nderiv_of, same_method_of};
 
 use dual::Dual;
 use dual2::Dual2;
@@ -33,7 +33,7 @@ pub(crate) fn parts(kind: Kind) -> usize
 
 // The one recorded function that is a constant and no call.
 pub(crate) fn nderiv(kind: Kind) -> u64
-    ensures { result ≡ nderivOf kind }
+    ensures { result ≡ nderiv_of kind }
 {
     match kind {
         Kind::Dual => Dual::NDERIV as u64,
@@ -52,7 +52,7 @@ pub(crate) fn call(
     floats: &[u64],
     out: &mut [u64],
 ) -> u32
-    ensures { (result, out.new) ≡ calledBy kind function exponent records.now floats.now out.old }
+    ensures { (result, out.new) ≡ called_by kind function exponent records.now floats.now out.old }
 {
     match kind {
         Kind::Dual => dual_calls::call(function, exponent, records, floats, out),
@@ -66,7 +66,7 @@ pub(crate) fn call(
 }
 
 pub(crate) fn sum(kind: Kind, run: &[f64], out: &mut [f64]) -> u32
-    ensures { (result, out.new) ≡ summedBy kind run.now out.old }
+    ensures { (result, out.new) ≡ summed_by kind run.now out.old }
 {
     match kind {
         Kind::Dual => dual_calls::sum(run, out),
@@ -78,7 +78,7 @@ pub(crate) fn sum(kind: Kind, run: &[f64], out: &mut [f64]) -> u32
 }
 
 pub(crate) fn product(kind: Kind, run: &[f64], out: &mut [f64]) -> u32
-    ensures { (result, out.new) ≡ multipliedBy kind run.now out.old }
+    ensures { (result, out.new) ≡ multiplied_by kind run.now out.old }
 {
     match kind {
         Kind::Dual => dual_calls::product(run, out),
@@ -97,7 +97,7 @@ pub(crate) fn same_method(
     floats: &[u64],
     wanted: &[u64],
 ) -> bool
-    ensures { result ≡ sameMethodOf kind function records.now floats.now wanted.now }
+    ensures { result ≡ same_method_of kind function records.now floats.now wanted.now }
 {
     match kind {
         Kind::Dual => replay_methods::of_dual::same(function, records, floats, wanted),

@@ -5,8 +5,8 @@ mod print;
 
 ghost use Rattle.std.specs.Prelude.{◌≡◌, ◌<◌, ◌≤◌, length, take, replicate};
 ghost use Rattle.real.specs.Operations as float;
-ghost use Rattle.replay_table.specs.Table.{mostWords, mostAnswer};
-ghost use Rattle.replay_records.specs.Kinds.{sameRecorded};
+ghost use Rattle.replay_table.specs.Table.{most_words, most_answer};
+ghost use Rattle.replay_records.specs.Kinds.{same_recorded};
 
 use kinds::Kind;
 use replay::tally::{Compared, Tally};
@@ -35,7 +35,7 @@ fn case_of(
 ) -> bool
     requires out_len { length out.old ≡ length left.old }
     requires out_nonzero { 0 < length out.old }
-    ensures { result ≡ sameRecorded kind function exponent records.now floats.now wanted words.now (length run.old) left.old out.old }
+    ensures { result ≡ same_recorded kind function exponent records.now floats.now wanted words.now (length run.old) left.old out.old }
 {
     let number = answers::answer(
         kind,
@@ -67,9 +67,9 @@ fn case_in_buffers(
     words: &[u64],
     told: bool,
 ) -> bool
-    requires records_len_bound { length records.now ≤ mostWords }
-    requires words_nonzero { (0 < length words.now) × (length words.now ≤ mostAnswer) }
-    ensures { result ≡ sameRecorded kind function exponent records.now floats.now wanted words.now (length records.now) (take (length words.now) (replicate mostAnswer float.zero)) (take (length words.now) (replicate mostAnswer 0)) }
+    requires records_len_bound { length records.now ≤ most_words }
+    requires words_nonzero { (0 < length words.now) × (length words.now ≤ most_answer) }
+    ensures { result ≡ same_recorded kind function exponent records.now floats.now wanted words.now (length records.now) (take (length words.now) (replicate most_answer float.zero)) (take (length words.now) (replicate most_answer 0)) }
 {
     let n = records.len();
     let size = words.len();

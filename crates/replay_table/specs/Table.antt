@@ -6,12 +6,12 @@ use Rattle.replay.specs.Same.{same_numbers}
 use Rattle.replay_table.specs.declared.Shape.{Shape}
 
 -- the words of the longest run: twelve records of the widest
-abbrev pub mostWords : ℕ
-mostWords = 12 * largest.width
+abbrev pub most_words : ℕ
+most_words = 12 * largest.width
 
 -- and of the longest answer: two records of the widest
-abbrev pub mostAnswer : ℕ
-mostAnswer = 2 * largest.width
+abbrev pub most_answer : ℕ
+most_answer = 2 * largest.width
 
 -- from number 00 on, in four digits each: how many records (f: the case says how many), exponents and floats a case has, and how many records its answer has
 -- (0: it is a whole number)
@@ -38,28 +38,28 @@ table =
     []
 
 -- the line of a number: 0000 where there is none
-abbrev pub shapeIn : ℕ → Shape
-shapeIn line = record { records = line / 0x1000 % 16; exponents = line / 0x100 % 16; floats = line / 0x10 % 16; answers = line % 16 }
+abbrev pub shape_in : ℕ → Shape
+shape_in line = record { records = line / 0x1000 % 16; exponents = line / 0x100 % 16; floats = line / 0x10 % 16; answers = line % 16 }
 
 unfoldable pub shape_of : ℕ → Shape
-shape_of function = shapeIn (get_or table function 0)
+shape_of function = shape_in (get_or table function 0)
 
 -- a whole number is one word; a record has so many parts, sin_cos gives two
-abbrev pub answerWords : ℕ → ℕ → ℕ
-answerWords answers parts = cond (eqb answers 0) 1 (cond (eqb answers 1) parts (parts + parts))
+abbrev pub answer_words : ℕ → ℕ → ℕ
+answer_words answers parts = cond (eqb answers 0) 1 (cond (eqb answers 1) parts (parts + parts))
 
 -- the words of a record of places: two digits a part, each the number of a word of the pool
-unfoldable pub recordOf : List ℕ → ℕ → ℕ → List ℕ
-recordOf pool places parts = tabulate (λ i. get_or pool (places / 2 ^ ((parts - 1 - i) * 8) % 256) 0) parts 0
+unfoldable pub record_of : List ℕ → ℕ → ℕ → List ℕ
+record_of pool places parts = tabulate (λ i. get_or pool (places / 2 ^ ((parts - 1 - i) * 8) % 256) 0) parts 0
 
 -- a number of 32 bits from its 64-bit two's complement; 0 of any other word
-unfoldable pub exponentOf : ℕ → ℤ
-exponentOf w = cond (leb w 0x7fffffff) (pos w) (cond (leb (2 ^ 64 - 1 - w) 0x7fffffff) (negsuc (2 ^ 64 - 1 - w)) (pos 0))
+unfoldable pub exponent_of : ℕ → ℤ
+exponent_of w = cond (leb w 0x7fffffff) (pos w) (cond (leb (2 ^ 64 - 1 - w) 0x7fffffff) (negsuc (2 ^ 64 - 1 - w)) (pos 0))
 
 -- 0 of the word of 0.0, 1 of the word of 1.0, 2 of any other
 abbrev pub truth_of : ℕ → ℕ
 truth_of word = cond (eqb word 0) 0 (cond (eqb word 0x3ff0000000000000) 1 2)
 
 -- the number and the words are the recorded ones
-unfoldable pub sameAnswer : ℕ → List ℕ → ℕ → List ℕ → Bool
-sameAnswer wanted words number left = eqb wanted number && same_numbers words left
+unfoldable pub same_answer : ℕ → List ℕ → ℕ → List ℕ → Bool
+same_answer wanted words number left = eqb wanted number && same_numbers words left

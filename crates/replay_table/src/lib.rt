@@ -3,7 +3,7 @@ pub mod read;
 
 ghost use Rattle.std.specs.Prelude.{◌≡◌, ◌≤◌, ◌<◌, min, length};
 ghost use Rattle.refusals.specs.Largest as largest;
-ghost use Rattle.replay_table.specs.Table.{mostAnswer, shape_of, answerWords, recordOf, exponentOf, truth_of, sameAnswer};
+ghost use Rattle.replay_table.specs.Table.{most_answer, shape_of, answer_words, record_of, exponent_of, truth_of, same_answer};
 
 use replay::Place;
 
@@ -72,7 +72,7 @@ pub fn shape_of(function: u64) -> Shape
 // How many words an answer has.
 pub fn answer_words(answers: u64, parts: usize) -> usize
     requires { (0 < parts) × (parts ≤ largest.width) }
-    ensures { (result ≡ answerWords answers parts) × ((0 < result) × (result ≤ mostAnswer)) }
+    ensures { (result ≡ answer_words answers parts) × ((0 < result) × (result ≤ most_answer)) }
 {
     match answers {
         0 => 1,
@@ -94,7 +94,7 @@ pub(crate) fn float_count(floats: u64) -> usize
 // The words of a record of places, as many as are lent.
 pub fn record_of(pool: &[u64; 256], places: u64, out: &mut [u64])
     requires { length out.old ≤ largest.width }
-    ensures { out.new ≡ recordOf pool.now places (length out.old) }
+    ensures { out.new ≡ record_of pool.now places (length out.old) }
 {
     let mut i = 0usize;
     while i < out.len() {
@@ -107,7 +107,7 @@ pub fn record_of(pool: &[u64; 256], places: u64, out: &mut [u64])
 
 // powi's exponent from its 64-bit two's complement; 0 where it is no number of 32 bits.
 pub fn exponent(w: u64) -> i32
-    ensures { result ≡ exponentOf w }
+    ensures { result ≡ exponent_of w }
 {
     if w <= 0x7fff_ffff {
         return w as i32;
@@ -132,7 +132,7 @@ pub fn truth(word: u64) -> u64
 
 // Whether a call is refused by the file's number, or by none, and leaves the file's words.
 pub fn same_answer(wanted: u64, words: &[u64], number: u64, left: &[u64]) -> bool
-    ensures { result ≡ sameAnswer wanted words.now number left.now }
+    ensures { result ≡ same_answer wanted words.now number left.now }
 {
     if wanted != number {
         return false;

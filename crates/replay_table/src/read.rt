@@ -1,7 +1,7 @@
 // A case, read.
 ghost use Rattle.std.specs.Prelude.{◌≡◌, ◌≤◌, ◌<◌, length};
 ghost use Rattle.refusals.specs.Largest as largest;
-ghost use Rattle.replay_table.specs.Table.{mostWords, mostAnswer};
+ghost use Rattle.replay_table.specs.Table.{most_words, most_answer};
 
 use crate::{Case, RUN, Shape, WORDS};
 use replay::Place;
@@ -54,8 +54,8 @@ fn read_records(
     parts: usize,
     words: &mut [u64],
 ) -> Records
-    requires { (parts ≤ largest.width) × (length words.old ≡ mostWords) }
-    ensures { result.length ≤ mostWords }
+    requires { (parts ≤ largest.width) × (length words.old ≡ most_words) }
+    ensures { result.length ≤ most_words }
 {
     let mut here = place;
     let mut whole = true;
@@ -165,8 +165,8 @@ pub fn read_case(
     answer: &mut [u64],
 ) -> Case
     requires parts_nonzero { (0 < parts) × (parts ≤ largest.width) }
-    requires words_len { (length words.old ≡ mostWords) × ((length floats.old ≡ 2) × (length answer.old ≡ mostAnswer)) }
-    ensures { (result.records ≤ mostWords) × ((result.floats ≤ 2) × ((0 < result.answer) × (result.answer ≤ mostAnswer))) }
+    requires words_len { (length words.old ≡ most_words) × ((length floats.old ≡ 2) × (length answer.old ≡ most_answer)) }
+    ensures { (result.records ≤ most_words) × ((result.floats ≤ 2) × ((0 < result.answer) × (result.answer ≤ most_answer))) }
 {
     let head = read_head(file, buffer, place);
     let place = head.place;

@@ -5,12 +5,12 @@ use mathlib.Core.List.{List, [], ◌++◌, append_assoc, append-nil}
 use lib.ListN.{length}
 use Rattle.real.specs.declared.root.Found.{Found}
 use Rattle.real.specs.Bits.{next_of}
-use Rattle.real.proofs.BitByBit.{Kept, within, again, some-come, none-come}
+use Rattle.real.proofs.BitByBit.{Kept, within, again, some_come, none_come}
 use Rattle.texts.specs.Page.{Page, page, written}
-use Rattle.texts.proofs.Page.{then, written-length}
+use Rattle.texts.proofs.Page.{then, written_length}
 use Rattle.rootsteps.specs.Start.{top_of, Scales, start_of, last_of}
 use Rattle.rootsteps.specs.Table.{row_of, rows_of}
-use Rattle.rootsteps.proofs.Steps.{most, most-small, kept-start}
+use Rattle.rootsteps.proofs.Steps.{most, most_small, kept_start}
 
 -- what the loop keeps, of so many rows from the first on
 pub record Stepping (n count : ℕ) (first : Found) (p : Page) (out : List ℕ) (end : ℕ) (f : Found) : Type 0 where
@@ -22,25 +22,25 @@ pub record Stepping (n count : ℕ) (first : Found) (p : Page) (out : List ℕ) 
   pub last : last_of digits f ≡ last_of count first
 
 -- no row is written yet
-pub stepping-none : (a bits top : ℕ) (out : List ℕ) (at : ℕ) → Scales bits a → top ≡ top_of bits
+pub stepping_none : (a bits top : ℕ) (out : List ℕ) (at : ℕ) → Scales bits a → top ≡ top_of bits
     → Stepping (a * top_of bits) (bits - 1) (start_of a bits) (page out at) out at record { twice = 2 * top; rest = a - top; bit = top / 2 }
 unfolding written
-stepping-none a bits top out at s e =
+stepping_none a bits top out at s e =
     subst (λ (x : ℕ). Stepping (a * top_of bits) (bits - 1) (start_of a bits) (page out at) out at record { twice = 2 * x; rest = a - x; bit = x / 2 }) (sym e)
-    record { digits = bits - 1; kept = kept-start a bits s; so_far = []; put = refl; rows = refl; last = refl }
+    record { digits = bits - 1; kept = kept_start a bits s; so_far = []; put = refl; rows = refl; last = refl }
 
 module _ (n count : ℕ) (first : Found) (p : Page) (out : List ℕ) (end : ℕ) (f : Found) (so : Stepping n count first p out end f) where
-  pub stepping-within : (f.rest < 2 ^ 62) × (f.twice + 2 * f.bit < 2 ^ 63)
-  stepping-within = within most n so.digits f so.kept most-small
+  pub stepping_within : (f.rest < 2 ^ 62) × (f.twice + 2 * f.bit < 2 ^ 63)
+  stepping_within = within most n so.digits f so.kept most_small
 
-  pub stepping-length : length out ≡ length p.bytes
-  stepping-length = ap (λ (q : Page). length q.bytes) so.put ∙ written-length p so.so_far
+  pub stepping_length : length out ≡ length p.bytes
+  stepping_length = ap (λ (q : Page). length q.bytes) so.put ∙ written_length p so.so_far
 
   -- one row more
-  pub stepping-more : (after : List ℕ) (r : ℕ) (next : Found) → 0 < f.bit → next ≡ next_of f → page after r ≡ written (page out end) (row_of f) → Stepping n count first p after r next
+  pub stepping_more : (after : List ℕ) (r : ℕ) (next : Found) → 0 < f.bit → next ≡ next_of f → page after r ≡ written (page out end) (row_of f) → Stepping n count first p after r next
   unfolding rows_of last_of
-  stepping-more after r next h e w =
-      let come = some-come most n so.digits f so.kept h in
+  stepping_more after r next h e w =
+      let come = some_come most n so.digits f so.kept h in
       let rest = come.0 in
       let kept : Kept most n (suc rest) f = subst (λ (d : ℕ). Kept most n d f) come.1 so.kept in
       let rows : so.so_far ++ rows_of (suc rest) f ≡ rows_of count first = subst (λ (d : ℕ). so.so_far ++ rows_of d f ≡ rows_of count first) come.1 so.rows in
@@ -57,13 +57,13 @@ module _ (n count : ℕ) (first : Found) (p : Page) (out : List ℕ) (end : ℕ)
 
   module _ (h : f.bit ≤ 0) where
     none : so.digits ≡ 0
-    none = none-come most n so.digits f so.kept h
+    none = none_come most n so.digits f so.kept h
 
     -- all the rows, and the last
-    pub stepping-all : page out end ≡ written p (rows_of count first)
+    pub stepping_all : page out end ≡ written p (rows_of count first)
     unfolding rows_of
-    stepping-all = so.put ∙ ap (written p) (sym (append-nil so.so_far) ∙ subst (λ (d : ℕ). so.so_far ++ rows_of d f ≡ rows_of count first) none so.rows)
+    stepping_all = so.put ∙ ap (written p) (sym (append-nil so.so_far) ∙ subst (λ (d : ℕ). so.so_far ++ rows_of d f ≡ rows_of count first) none so.rows)
 
-    pub stepping-last : f ≡ last_of count first
+    pub stepping_last : f ≡ last_of count first
     unfolding last_of
-    stepping-last = subst (λ (d : ℕ). last_of d f ≡ last_of count first) none so.last
+    stepping_last = subst (λ (d : ℕ). last_of d f ≡ last_of count first) none so.last

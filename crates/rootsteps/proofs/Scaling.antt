@@ -8,67 +8,67 @@ use lib.Dec.{lit<}
 use lib.Ieee.{size}
 use lib.Ieee.Digits.{size-lt, size-le, size_reaches}
 use lib.Pow.{pow-add, pow_mono, shl_lt, shl_exact}
-use Rattle.rootsteps.specs.Request.{mostBits, Askable}
-use Rattle.rootsteps.specs.Start.{top_of, shift_of, oddOf, significandOf, exponentOf, Scales}
+use Rattle.rootsteps.specs.Request.{most_bits, Askable}
+use Rattle.rootsteps.specs.Start.{top_of, shift_of, odd_of, significand_of, exponent_of, Scales}
 
 -- a bit of a small weight, as the code shifts it there
-pub weight : (k : ℕ) → k ≤ mostBits → 1 * 2 ^ k % 2 ^ 64 ≡ 2 ^ k
+pub weight : (k : ℕ) → k ≤ most_bits → 1 * 2 ^ k % 2 ^ 64 ≡ 2 ^ k
 weight k h = shl_exact {a = 1} 1 k 64 (lit< tt) (omega arith) ∙ (let e : 1 * 2 ^ k ≡ 2 ^ k = omega arith in e)
 
 -- the weight of the leading bit
-pub top-is : (bits : ℕ) → bits ≤ mostBits → 1 * 2 ^ (bits - 1) % 2 ^ 64 ≡ top_of bits
-top-is bits h = weight (bits - 1) (omega arith)
+pub top_is : (bits : ℕ) → bits ≤ most_bits → 1 * 2 ^ (bits - 1) % 2 ^ 64 ≡ top_of bits
+top_is bits h = weight (bits - 1) (omega arith)
 
-pub top_small : (bits : ℕ) → bits ≤ mostBits → top_of bits ≤ 2 ^ mostBits
-top_small bits h = pow_mono {i = bits - 1} {j = mostBits} (omega arith)
+pub top_small : (bits : ℕ) → bits ≤ most_bits → top_of bits ≤ 2 ^ most_bits
+top_small bits h = pow_mono {i = bits - 1} {j = most_bits} (omega arith)
 
 module _ (number bits : ℕ) (asks : Askable number bits) where
-  in-word : number < 2 ^ 64
-  in-word = lt_of_lt_of_le asks.fits (pow_mono {i = bits} {j = 64} (let h = asks.few in omega arith))
+  in_word : number < 2 ^ 64
+  in_word = lt_of_lt_of_le asks.fits (pow_mono {i = bits} {j = 64} (let h = asks.few in omega arith))
 
-  pub zeros-few : count_leading_zeros 64 number ≤ 64
-  zeros-few = leading_le 64 number
+  pub zeros_few : count_leading_zeros 64 number ≤ 64
+  zeros_few = leading_le 64 number
 
   -- the digits of a number are those that its leading zeros leave
-  pub digits-left : 64 - count_leading_zeros 64 number ≡ size number
-  digits-left =
-      let l = leading_top 64 number asks.positive in-word in
+  pub digits_left : 64 - count_leading_zeros 64 number ≡ size number
+  digits_left =
+      let l = leading_top 64 number asks.positive in_word in
       let j = l.0 in
       let up : size number ≤ suc j = size-le number (suc j) l.3 in
       let down : j < size number = lt_of_not-le (λ (g : size number ≤ j). lt_irrefl (2 ^ j) (lt_of_le_of_lt l.2 (lt_of_lt_of_le (size-lt number) (pow_mono g)))) in
       let whole : count_leading_zeros 64 number + suc j ≡ 64 = l.1 in
       omega arith
 
-  digits-few : size number ≤ bits
-  digits-few = size-le number bits asks.fits
+  digits_few : size number ≤ bits
+  digits_few = size-le number bits asks.fits
 
-  digits-some : 0 < size number
-  digits-some = lt_of_not-le (λ (g : size number ≤ 0). lt_irrefl 0 (lt_of_lt_of_le asks.positive (let h : number < 2 ^ 0 = lt_of_lt_of_le (size-lt number) (pow_mono g) in omega arith)))
+  digits_some : 0 < size number
+  digits_some = lt_of_not-le (λ (g : size number ≤ 0). lt_irrefl 0 (lt_of_lt_of_le asks.positive (let h : number < 2 ^ 0 = lt_of_lt_of_le (size-lt number) (pow_mono g) in omega arith)))
 
-  pub shift-there : 64 - count_leading_zeros 64 number ≤ bits
-  shift-there = le_trans (le_of_eq digits-left) digits-few
+  pub shift_there : 64 - count_leading_zeros 64 number ≤ bits
+  shift_there = le_trans (le_of_eq digits_left) digits_few
 
-  odd-few : oddOf number bits ≤ 1
-  odd-few = omega arith
+  odd_few : odd_of number bits ≤ 1
+  odd_few = omega arith
 
-  pub scaled-is : number * 2 ^ (bits - (64 - count_leading_zeros 64 number) + (bits - (64 - count_leading_zeros 64 number) + (bits - 1)) % 2) % 2 ^ 64 ≡ significandOf number bits
-  unfolding significandOf
-  scaled-is =
-      ap (λ (d : ℕ). number * 2 ^ (bits - d + (bits - d + (bits - 1)) % 2) % 2 ^ 64) digits-left
-      ∙ shl_exact (size number) (shift_of number bits + oddOf number bits) 64 (size-lt number) (let h = asks.few in let g = digits-few in let k = odd-few in omega arith)
+  pub scaled_is : number * 2 ^ (bits - (64 - count_leading_zeros 64 number) + (bits - (64 - count_leading_zeros 64 number) + (bits - 1)) % 2) % 2 ^ 64 ≡ significand_of number bits
+  unfolding significand_of
+  scaled_is =
+      ap (λ (d : ℕ). number * 2 ^ (bits - d + (bits - d + (bits - 1)) % 2) % 2 ^ 64) digits_left
+      ∙ shl_exact (size number) (shift_of number bits + odd_of number bits) 64 (size-lt number) (let h = asks.few in let g = digits_few in let k = odd_few in omega arith)
 
-  pub exponent-is : bits - (64 - count_leading_zeros 64 number) + (bits - 1) + (bits - (64 - count_leading_zeros 64 number) + (bits - 1)) % 2 ≡ exponentOf number bits
-  unfolding exponentOf
-  exponent-is = ap (λ (d : ℕ). bits - d + (bits - 1) + (bits - d + (bits - 1)) % 2) digits-left
+  pub exponent_is : bits - (64 - count_leading_zeros 64 number) + (bits - 1) + (bits - (64 - count_leading_zeros 64 number) + (bits - 1)) % 2 ≡ exponent_of number bits
+  unfolding exponent_of
+  exponent_is = ap (λ (d : ℕ). bits - d + (bits - 1) + (bits - d + (bits - 1)) % 2) digits_left
 
-  pub scales : Scales bits (significandOf number bits)
-  unfolding significandOf
+  pub scales : Scales bits (significand_of number bits)
+  unfolding significand_of
   scales =
       let z = size number in
-      let k = shift_of number bits + oddOf number bits in
-      let few = digits-few in
-      let some = digits-some in
-      let odd = odd-few in
+      let k = shift_of number bits + odd_of number bits in
+      let few = digits_few in
+      let some = digits_some in
+      let odd = odd_few in
       let reaches : 2 ^ (z - 1) ≤ number = size_reaches number (z - 1) (omega arith) in
       record {
         some = asks.some;
@@ -77,5 +77,5 @@ module _ (number bits : ℕ) (asks : Askable number bits) where
         high = lt_of_lt_of_le (shl_lt z k (size-lt number)) (le_trans (pow_mono {i = z + k} {j = bits - 1 + 2} (let h = asks.some in omega arith)) (le_of_eq (pow-add 2 (bits - 1) 2 ∙ (let e : 2 ^ (bits - 1) * 2 ^ 2 ≡ 4 * 2 ^ (bits - 1) = omega arith in e))));
       }
 
-  pub scales-by : (a : ℕ) → a ≡ significandOf number bits → Scales bits a
-  scales-by a e = subst (Scales bits) (sym e) scales
+  pub scales_by : (a : ℕ) → a ≡ significand_of number bits → Scales bits a
+  scales_by a e = subst (Scales bits) (sym e) scales

@@ -7,32 +7,32 @@ use lib.Pow.{pow_mono}
 use Rattle.real.specs.declared.root.Found.{Found}
 use Rattle.real.specs.Bits.{next_of}
 use Rattle.real.proofs.BitByBit.{Kept, start, again, ended}
-use Rattle.rootsteps.specs.Request.{mostBits}
+use Rattle.rootsteps.specs.Request.{most_bits}
 use Rattle.rootsteps.specs.Start.{top_of, Scales, start_of, last_of}
 
 -- no root is larger
 abbrev pub most : ℕ
-most = 2 ^ mostBits
+most = 2 ^ most_bits
 
-pub most-small : most ≤ 2 ^ 60
-most-small = omega arith
+pub most_small : most ≤ 2 ^ 60
+most_small = omega arith
 
 -- the leading bit is known
-pub kept-start : (a bits : ℕ) → Scales bits a → Kept most (a * top_of bits) (bits - 1) (start_of a bits)
-kept-start a bits s =
+pub kept_start : (a bits : ℕ) → Scales bits a → Kept most (a * top_of bits) (bits - 1) (start_of a bits)
+kept_start a bits s =
     let k = start (bits - 1) a s.low s.high in
-    let top : 2 ^ suc (bits - 1) ≤ most = pow_mono {i = suc (bits - 1)} {j = mostBits} (let few = s.few in let some = s.some in omega arith) in
+    let top : 2 ^ suc (bits - 1) ≤ most = pow_mono {i = suc (bits - 1)} {j = most_bits} (let few = s.few in let some = s.some in omega arith) in
     record { root = k.root; doubled = k.doubled; weight = k.weight; left = k.left; few = k.few; room = le_trans k.room (let e : 2 * 2 ^ (bits - 1) ≤ most = omega arith in e) }
 
 -- as many bits more as are to come
-kept-last : (n digits : ℕ) (f : Found) → Kept most n digits f → Kept most n 0 (last_of digits f)
+kept_last : (n digits : ℕ) (f : Found) → Kept most n digits f → Kept most n 0 (last_of digits f)
 unfolding last_of
-kept-last n zero f k = k
-kept-last n (suc digits) f k = kept-last n digits (next_of f) (again most n digits f k)
+kept_last n zero f k = k
+kept_last n (suc digits) f k = kept_last n digits (next_of f) (again most n digits f k)
 
 -- after the last: the whole root, and what its square leaves
-pub last-ended : (a bits : ℕ) → Scales bits a → let f = last_of (bits - 1) (start_of a bits) in (f.twice / 2 * (f.twice / 2) + f.rest ≡ a * top_of bits) × (f.rest ≤ 2 * (f.twice / 2)) × (f.twice / 2 < most)
-last-ended a bits s = ended most (a * top_of bits) (last_of (bits - 1) (start_of a bits)) (kept-last (a * top_of bits) (bits - 1) (start_of a bits) (kept-start a bits s))
+pub last_ended : (a bits : ℕ) → Scales bits a → let f = last_of (bits - 1) (start_of a bits) in (f.twice / 2 * (f.twice / 2) + f.rest ≡ a * top_of bits) × (f.rest ≤ 2 * (f.twice / 2)) × (f.twice / 2 < most)
+last_ended a bits s = ended most (a * top_of bits) (last_of (bits - 1) (start_of a bits)) (kept_last (a * top_of bits) (bits - 1) (start_of a bits) (kept_start a bits s))
 
-pub last-small : (a bits root : ℕ) → Scales bits a → root ≡ (last_of (bits - 1) (start_of a bits)).twice / 2 → root < 2 ^ 63
-last-small a bits root s e = subst (λ (x : ℕ). x < 2 ^ 63) (sym e) (omega (arith, (last-ended a bits s).2))
+pub last_small : (a bits root : ℕ) → Scales bits a → root ≡ (last_of (bits - 1) (start_of a bits)).twice / 2 → root < 2 ^ 63
+last_small a bits root s e = subst (λ (x : ℕ). x < 2 ^ 63) (sym e) (omega (arith, (last_ended a bits s).2))

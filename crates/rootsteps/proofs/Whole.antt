@@ -10,109 +10,109 @@ use lib.ListN.{length, take, length-append}
 use lib.Seq.{take_all, length-take-le}
 use borrow.Author.Tests.{ltb-true, ltb-false}
 use Rattle.real.specs.declared.root.Found.{Found}
-use Rattle.real.specs.Bits.{trialOf, fitsNext, next_of}
+use Rattle.real.specs.Bits.{trial_of, fits_next, next_of}
 use Rattle.texts.specs.declared.Number.{Number}
 use Rattle.texts.specs.declared.Number.TheVariants.{Is, Not}
 use Rattle.texts.specs.Bytes.{newline, space}
 use Rattle.texts.specs.Digits.{byte_at}
-use Rattle.texts.specs.Numbers.{numberFrom}
-use Rattle.texts.proofs.Numbers.{number-end}
-use Rattle.texts.proofs.Decimals.{length-decimal}
+use Rattle.texts.specs.Numbers.{number_from}
+use Rattle.texts.proofs.Numbers.{number_end}
+use Rattle.texts.proofs.Decimals.{length_decimal}
 use Rattle.rootsteps.specs.declared.Request.{Request}
 use Rattle.rootsteps.specs.declared.Request.TheVariants.{Steps, Unreadable}
-use Rattle.rootsteps.specs.Words.{opening, bar, times, plus, equals, timesPower, nearestWord, overPower}
-use Rattle.rootsteps.specs.Request.{numberDigits, mostBits, asked, with_bits, bitsFrom, with_number, requestOf}
-use Rattle.rootsteps.specs.Table.{labelled, rowEnd, leadingRow, verdict, row_of, rows_of, sumLine, nearestOf, nearestLine, table_of}
-use Rattle.rootsteps.specs.Output.{outputFor, outputOf}
-use Rattle.rootsteps.proofs.Asking.{ends-later, askable}
+use Rattle.rootsteps.specs.Words.{opening, bar, times, plus, equals, times_power, nearest_word, over_power}
+use Rattle.rootsteps.specs.Request.{number_digits, most_bits, asked, with_bits, bits_from, with_number, request_of}
+use Rattle.rootsteps.specs.Table.{labelled, row_end, leading_row, verdict, row_of, rows_of, sum_line, nearest_of, nearest_line, table_of}
+use Rattle.rootsteps.specs.Output.{output_for, output_of}
+use Rattle.rootsteps.proofs.Asking.{ends_later, askable}
 
 -- as many bytes are read and written
-abbrev pub mostBytes : ℕ
-mostBytes = 4096
+abbrev pub most_bytes : ℕ
+most_bytes = 4096
 
 -- ---- a text gives what its first 4,096 bytes give: one that long asks nothing
-module _ (text : List ℕ) (long : mostBytes ≤ length text) where
-  bits-refused : (number p : ℕ) (m : Number) → p ≤ numberDigits + 1 → m ≡ numberFrom numberDigits text p → with_bits text number m ≡ Unreadable
-  bits-refused number p (Is bits end) h read =
-      let early : end ≤ p + numberDigits = number-end numberDigits text p bits end (sym read) in
-      ap (λ (t : Bool). cond t (asked number bits) Unreadable) (sym (ends-later text end (λ e. omega arith) (λ e. omega arith)))
-  bits-refused number p Not h read = refl
+module _ (text : List ℕ) (long : most_bytes ≤ length text) where
+  bits_refused : (number p : ℕ) (m : Number) → p ≤ number_digits + 1 → m ≡ number_from number_digits text p → with_bits text number m ≡ Unreadable
+  bits_refused number p (Is bits end) h read =
+      let early : end ≤ p + number_digits = number_end number_digits text p bits end (sym read) in
+      ap (λ (t : Bool). cond t (asked number bits) Unreadable) (sym (ends_later text end (λ e. omega arith) (λ e. omega arith)))
+  bits_refused number p Not h read = refl
 
-  number-refused : (m : Number) → m ≡ numberFrom numberDigits text 0 → with_number text m ≡ Unreadable
-  unfolding bitsFrom
-  number-refused (Is number end) read = by (eqb (byte_at text end) space)
+  number_refused : (m : Number) → m ≡ number_from number_digits text 0 → with_number text m ≡ Unreadable
+  unfolding bits_from
+  number_refused (Is number end) read = by (eqb (byte_at text end) space)
     where
-      by : (t : Bool) → cond t (with_bits text number (numberFrom numberDigits text (end + 1))) Unreadable ≡ Unreadable
-      by true = bits-refused number (end + 1) (numberFrom numberDigits text (end + 1)) (omega (arith, number-end numberDigits text 0 number end (sym read))) refl
+      by : (t : Bool) → cond t (with_bits text number (number_from number_digits text (end + 1))) Unreadable ≡ Unreadable
+      by true = bits_refused number (end + 1) (number_from number_digits text (end + 1)) (omega (arith, number_end number_digits text 0 number end (sym read))) refl
       by false = refl
-  number-refused Not read = refl
+  number_refused Not read = refl
 
-  long-refused : requestOf text ≡ Unreadable
-  unfolding requestOf
-  long-refused = number-refused (numberFrom numberDigits text 0) refl
+  long_refused : request_of text ≡ Unreadable
+  unfolding request_of
+  long_refused = number_refused (number_from number_digits text 0) refl
 
-pub read_whole : (text : List ℕ) → outputOf (take mostBytes text) ≡ outputOf text
-unfolding outputOf
-read_whole text = by (ltb mostBytes (length text)) refl
+pub read_whole : (text : List ℕ) → output_of (take most_bytes text) ≡ output_of text
+unfolding output_of
+read_whole text = by (ltb most_bytes (length text)) refl
   where
-    by : (b : Bool) → ltb mostBytes (length text) ≡ b → outputFor (requestOf (take mostBytes text)) ≡ outputFor (requestOf text)
-    by false e = ap (λ (t : List ℕ). outputFor (requestOf t)) (take_all mostBytes text (ltb-false mostBytes (length text) e))
+    by : (b : Bool) → ltb most_bytes (length text) ≡ b → output_for (request_of (take most_bytes text)) ≡ output_for (request_of text)
+    by false e = ap (λ (t : List ℕ). output_for (request_of t)) (take_all most_bytes text (ltb-false most_bytes (length text) e))
     by true e =
-        let long : mostBytes < length text = ltb-true mostBytes (length text) e in
-        let cut : length (take mostBytes text) ≡ mostBytes = length-take-le mostBytes text (omega arith) in
-        ap outputFor (long-refused (take mostBytes text) (omega arith) ∙ sym (long-refused text (omega arith)))
+        let long : most_bytes < length text = ltb-true most_bytes (length text) e in
+        let cut : length (take most_bytes text) ≡ most_bytes = length-take-le most_bytes text (omega arith) in
+        ap output_for (long_refused (take most_bytes text) (omega arith) ∙ sym (long_refused text (omega arith)))
 
 -- ---- no output is longer than 4,096 bytes
-length-labelled : (label : List ℕ) (n : ℕ) → length (labelled label n) ≤ length label + 20
+length_labelled : (label : List ℕ) (n : ℕ) → length (labelled label n) ≤ length label + 20
 unfolding labelled
-length-labelled label n = simp length-append (omega (arith, length-decimal n))
+length_labelled label n = simp length-append (omega (arith, length_decimal n))
 
-length-row-end : (root left : ℕ) → length (rowEnd root left) ≤ 49
-unfolding rowEnd
-length-row-end root left = simp length-append (omega (arith, length-labelled bar root, length-labelled bar left))
+length_row_end : (root left : ℕ) → length (row_end root left) ≤ 49
+unfolding row_end
+length_row_end root left = simp length-append (omega (arith, length_labelled bar root, length_labelled bar left))
 
-length-leading : (top left : ℕ) → length (leadingRow top left) ≤ 160
-unfolding leadingRow
-length-leading top left = simp length-append (omega (arith, length-labelled opening top, length-row-end top left))
+length_leading : (top left : ℕ) → length (leading_row top left) ≤ 160
+unfolding leading_row
+length_leading top left = simp length-append (omega (arith, length_labelled opening top, length_row_end top left))
 
-length-verdict : (fits : Bool) → length (verdict fits) ≤ 6
-length-verdict true = omega arith
-length-verdict false = omega arith
+length_verdict : (fits : Bool) → length (verdict fits) ≤ 6
+length_verdict true = omega arith
+length_verdict false = omega arith
 
-length-row : (f : Found) → length (row_of f) ≤ 123
+length_row : (f : Found) → length (row_of f) ≤ 123
 unfolding row_of
-length-row f =
+length_row f =
     simp length-append
-    (omega (arith, length-labelled opening f.bit, length-labelled bar (trialOf f), length-labelled bar (2 * f.rest), length-verdict (fitsNext f), length-row-end ((next_of f).twice / 2) (next_of f).rest))
+    (omega (arith, length_labelled opening f.bit, length_labelled bar (trial_of f), length_labelled bar (2 * f.rest), length_verdict (fits_next f), length_row_end ((next_of f).twice / 2) (next_of f).rest))
 
-length-rows : (digits : ℕ) (f : Found) → length (rows_of digits f) ≤ 123 * digits
+length_rows : (digits : ℕ) (f : Found) → length (rows_of digits f) ≤ 123 * digits
 unfolding rows_of
-length-rows zero f = omega arith
-length-rows (suc digits) f = omega (arith, length-append (row_of f) (rows_of digits (next_of f)), length-row f, length-rows digits (next_of f))
+length_rows zero f = omega arith
+length_rows (suc digits) f = omega (arith, length-append (row_of f) (rows_of digits (next_of f)), length_row f, length_rows digits (next_of f))
 
-length-sum : (root left number exponent : ℕ) → length (sumLine root left number exponent) ≤ 116
-unfolding sumLine
-length-sum root left number exponent =
+length_sum : (root left number exponent : ℕ) → length (sum_line root left number exponent) ≤ 116
+unfolding sum_line
+length_sum root left number exponent =
     simp length-append
-    (omega (arith, length-labelled (newline ∷ []) root, length-labelled times root, length-labelled plus left, length-labelled equals number, length-labelled timesPower exponent))
+    (omega (arith, length_labelled (newline ∷ []) root, length_labelled times root, length_labelled plus left, length_labelled equals number, length_labelled times_power exponent))
 
-length-nearest : (root left power : ℕ) → length (nearestLine root left power) ≤ 56
-unfolding nearestLine
-length-nearest root left power = simp length-append (omega (arith, length-labelled nearestWord (nearestOf root left), length-labelled overPower power))
+length_nearest : (root left power : ℕ) → length (nearest_line root left power) ≤ 56
+unfolding nearest_line
+length_nearest root left power = simp length-append (omega (arith, length_labelled nearest_word (nearest_of root left), length_labelled over_power power))
 
 -- four parts, by the most of each
 joined : (a b d e : List ℕ) (k l m n : ℕ) → length a ≤ k → length b ≤ l → length d ≤ m → length e ≤ n → length (a ++ b ++ d ++ e) ≤ k + l + m + n
 joined a b d e k l m n f g h i = simp length-append (omega arith)
 
-length-table : (number bits : ℕ) → bits ≤ mostBits → length (table_of number bits) ≤ mostBytes
+length_table : (number bits : ℕ) → bits ≤ most_bits → length (table_of number bits) ≤ most_bytes
 unfolding table_of
-length-table number bits h =
-    le_trans (joined (leadingRow _ _) (rows_of (bits - 1) _) (sumLine _ _ _ _) (nearestLine _ _ _) 160 (123 * (bits - 1)) 116 56 (length-leading _ _) (length-rows (bits - 1) _) (length-sum _ _ _ _) (length-nearest _ _ _)) (omega arith)
+length_table number bits h =
+    le_trans (joined (leading_row _ _) (rows_of (bits - 1) _) (sum_line _ _ _ _) (nearest_line _ _ _) 160 (123 * (bits - 1)) 116 56 (length_leading _ _) (length_rows (bits - 1) _) (length_sum _ _ _ _) (length_nearest _ _ _)) (omega arith)
 
-output-most : (text : List ℕ) (r : Request) → r ≡ requestOf text → length (outputFor r) ≤ mostBytes
-output-most text (Steps number bits) e = length-table number bits (askable text (Steps number bits) number bits e refl).few
-output-most text Unreadable e = omega arith
+output_most : (text : List ℕ) (r : Request) → r ≡ request_of text → length (output_for r) ≤ most_bytes
+output_most text (Steps number bits) e = length_table number bits (askable text (Steps number bits) number bits e refl).few
+output_most text Unreadable e = omega arith
 
-pub written-whole : (text : List ℕ) → length (outputOf text) ≤ mostBytes
-unfolding outputOf
-written-whole text = output-most text (requestOf text) refl
+pub written_whole : (text : List ℕ) → length (output_of text) ≤ most_bytes
+unfolding output_of
+written_whole text = output_most text (request_of text) refl

@@ -18,8 +18,8 @@ abbrev pub closing : List ℕ
 closing = 32 ∷ 124 ∷ 10 ∷ []
 
 -- the cells of a trial, a rest and an answer where the bit is the leading one: " | | | yes"
-abbrev pub leadingCells : List ℕ
-leadingCells = 32 ∷ 124 ∷ 32 ∷ 124 ∷ 32 ∷ 124 ∷ 32 ∷ 121 ∷ 101 ∷ 115 ∷ []
+abbrev pub leading_cells : List ℕ
+leading_cells = 32 ∷ 124 ∷ 32 ∷ 124 ∷ 32 ∷ 124 ∷ 32 ∷ 121 ∷ 101 ∷ 115 ∷ []
 
 -- the cell of a bit that fits: " | yes"
 abbrev pub yes : List ℕ
@@ -42,16 +42,16 @@ abbrev pub equals : List ℕ
 equals = 32 ∷ 61 ∷ 32 ∷ []
 
 -- before the exponent of a factor: " * 2^"
-abbrev pub timesPower : List ℕ
-timesPower = 32 ∷ 42 ∷ 32 ∷ 50 ∷ 94 ∷ []
+abbrev pub times_power : List ℕ
+times_power = 32 ∷ 42 ∷ 32 ∷ 50 ∷ 94 ∷ []
 
 -- before the last line's number: "\nnearest: "
-abbrev pub nearestWord : List ℕ
-nearestWord = 10 ∷ 110 ∷ 101 ∷ 97 ∷ 114 ∷ 101 ∷ 115 ∷ 116 ∷ 58 ∷ 32 ∷ []
+abbrev pub nearest_word : List ℕ
+nearest_word = 10 ∷ 110 ∷ 101 ∷ 97 ∷ 114 ∷ 101 ∷ 115 ∷ 116 ∷ 58 ∷ 32 ∷ []
 
 -- before the exponent of a divisor: " / 2^"
-abbrev pub overPower : List ℕ
-overPower = 32 ∷ 47 ∷ 32 ∷ 50 ∷ 94 ∷ []
+abbrev pub over_power : List ℕ
+over_power = 32 ∷ 47 ∷ 32 ∷ 50 ∷ 94 ∷ []
 
 -- what is printed for any text that asks nothing: "two whole numbers, as in 2 8: the number, and how many bits of its root (2 to 26); the number is from 1 up and has at most so many bits\n"
 abbrev pub refusal : List ℕ

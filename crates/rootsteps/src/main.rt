@@ -6,7 +6,7 @@ mod table;
 ghost use Rattle.std.specs.Prelude.{◌≡◌};
 ghost use Rattle.io.specs.Counts.{IsPrefixLen};
 ghost use Rattle.texts.specs.Page.{page, written};
-ghost use Rattle.rootsteps.specs.Output.{outputOf};
+ghost use Rattle.rootsteps.specs.Output.{output_of};
 
 // What a text asks: the steps to the root of a number, in so many bits.
 #[derive(Drop)]
@@ -17,7 +17,7 @@ enum Request {
 
 // What the program writes for a text, put at the start of a lent buffer as far as it fits: the number of bytes put there. The rest of the buffer stays as it was.
 fn run(text: &[u8], out: &mut [u8]) -> usize
-    ensures result_after { page out.new result ≡ written (page out.old 0) (outputOf text.now) }
+    ensures result_after { page out.new result ≡ written (page out.old 0) (output_of text.now) }
     ensures prefix_len { IsPrefixLen result out.new }
 {
     match read::request(text) {

@@ -1,6 +1,6 @@
 // Reading: the number, the space and the bits.
 ghost use Rattle.std.specs.Prelude.{◌≡◌, ◌+◌, ◌^◌, ◌≤◌, ◌<◌};
-ghost use Rattle.rootsteps.specs.Request.{numberDigits, ends_at, bitsFrom, requestOf};
+ghost use Rattle.rootsteps.specs.Request.{number_digits, ends_at, bits_from, request_of};
 ghost use Rattle.rootsteps.specs.Request.{asked as Request·asked};
 
 use super::Request;
@@ -49,8 +49,8 @@ fn ends(text: &[u8], p: usize) -> bool
 
 // The bits from p on, after the number.
 fn bits_from(text: &[u8], number: usize, p: usize) -> Request
-    requires { p ≤ numberDigits + 1 }
-    ensures { result ≡ bitsFrom text.now number p }
+    requires { p ≤ number_digits + 1 }
+    ensures { result ≡ bits_from text.now number p }
 {
     let Number::Is { value, end } = texts::read::number(text, p, NUMBER_DIGITS) else {
         return Request::Unreadable;
@@ -63,7 +63,7 @@ fn bits_from(text: &[u8], number: usize, p: usize) -> Request
 
 // What a text asks.
 pub(crate) fn request(text: &[u8]) -> Request
-    ensures { result ≡ requestOf text.now }
+    ensures { result ≡ request_of text.now }
 {
     let Number::Is { value, end } = texts::read::number(text, 0, NUMBER_DIGITS) else {
         return Request::Unreadable;

@@ -4,7 +4,7 @@ ghost use Rattle.real.specs.Bits.{next_of};
 ghost use Rattle.texts.specs.Page.{page, written};
 ghost use Rattle.rootsteps.specs.Request.{Askable};
 ghost use Rattle.rootsteps.specs.Start.{Scales, start_of, last_of};
-ghost use Rattle.rootsteps.specs.Table.{rowEnd, leadingRow, verdict, row_of, rows_of, sumLine, nearestLine, table_of};
+ghost use Rattle.rootsteps.specs.Table.{row_end, leading_row, verdict, row_of, rows_of, sum_line, nearest_line, table_of};
 ghost use Rattle.rootsteps.specs.Table.{labelled as Table·labelled};
 
 use super::start;
@@ -22,7 +22,7 @@ fn labelled(out: &mut [u8], at: usize, label: &[u8], n: u64) -> usize
 
 // The last two cells of a row.
 fn row_end(out: &mut [u8], at: usize, root: u64, left: u64) -> usize
-    ensures { page out.new result ≡ written (page out.old at) (rowEnd root left) }
+    ensures { page out.new result ≡ written (page out.old at) (row_end root left) }
 {
     let first = labelled(out, at, b" | ", root);
     let second = labelled(out, first, b" | ", left);
@@ -31,7 +31,7 @@ fn row_end(out: &mut [u8], at: usize, root: u64, left: u64) -> usize
 
 // The heading and the row of the leading bit.
 fn leading_row(out: &mut [u8], at: usize, top: u64, left: u64) -> usize
-    ensures { page out.new result ≡ written (page out.old at) (leadingRow top left) }
+    ensures { page out.new result ≡ written (page out.old at) (leading_row top left) }
 {
     let head = write::bytes(
         out,
@@ -105,7 +105,7 @@ fn rows(out: &mut [u8], at: usize, a: u64, bits: u64) -> Ended
 
 // The whole root, and what its square leaves.
 fn sum_line(out: &mut [u8], at: usize, root: u64, left: u64, number: u64, exponent: u64) -> usize
-    ensures { page out.new result ≡ written (page out.old at) (sumLine root left number exponent) }
+    ensures { page out.new result ≡ written (page out.old at) (sum_line root left number exponent) }
 {
     let first = labelled(out, at, b"\n", root);
     let second = labelled(out, first, b" * ", root);
@@ -118,7 +118,7 @@ fn sum_line(out: &mut [u8], at: usize, root: u64, left: u64, number: u64, expone
 // The nearest, over a power of 2.
 fn nearest_line(out: &mut [u8], at: usize, root: u64, left: u64, power: u64) -> usize
     requires { root < 2 ^ 63 }
-    ensures { page out.new result ≡ written (page out.old at) (nearestLine root left power) }
+    ensures { page out.new result ≡ written (page out.old at) (nearest_line root left power) }
 {
     let nearest = if root < left { root + 1 } else { root };
     let first = labelled(out, at, b"\nnearest: ", nearest);

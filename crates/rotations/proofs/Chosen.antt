@@ -6,12 +6,12 @@ use lib.Dec.{ltb}
 use lib.Ieee.{Float, eq, le}
 use borrow.Author.Tests.{lt-ltb, le-ltb}
 use Rattle.real.specs.Operations.{half}
-use Rattle.real.specs.Sign.{sign_of, absOf}
+use Rattle.real.specs.Sign.{sign_of, abs_of}
 use Rattle.algebra.specs.Algebra.{Algebra, magnitude}
-use Rattle.derivatives.specs.Apply.{recipOf}
+use Rattle.derivatives.specs.Apply.{recip_of}
 use Rattle.rotations.specs.declared.Choice.{Choice}
 use Rattle.rotations.specs.declared.Choice.TheVariants.{Keep, Clear, Rotate}
-use Rattle.rotations.specs.Rotation.{gap_of, absorbed, choice_of, hypotenuseOf, tangentOf, rotationTangent}
+use Rattle.rotations.specs.Rotation.{gap_of, absorbed, choice_of, hypotenuse_of, tangent_of, rotation_tangent}
 
 -- ---- what is chosen
 
@@ -27,56 +27,56 @@ module _ {R : Type 0} (A : Algebra R) (it-num : ℕ) (x dp dq : R) where
   cleared_both gapq b r h eg eb et er =
       er ∙ ap (λ (g : R). absorbed A g dq) eg ∙ sym (λ i. lt-ltb 4 it-num h i && (tested gapq b true eg eb et i && absorbed A (gap_of A x) dq))
 
-  pub cleared-first : (gapq : R) (b : Bool) → 4 < it-num → gapq ≡ gap_of A x → b ≡ absorbed A gapq dp → b ≡ false → false ≡ Cleared
-  cleared-first gapq b h eg eb et = sym (λ i. lt-ltb 4 it-num h i && (tested gapq b false eg eb et i && absorbed A (gap_of A x) dq))
+  pub cleared_first : (gapq : R) (b : Bool) → 4 < it-num → gapq ≡ gap_of A x → b ≡ absorbed A gapq dp → b ≡ false → false ≡ Cleared
+  cleared_first gapq b h eg eb et = sym (λ i. lt-ltb 4 it-num h i && (tested gapq b false eg eb et i && absorbed A (gap_of A x) dq))
 
-  pub cleared-early : it-num ≤ 4 → false ≡ Cleared
-  cleared-early h = sym (λ i. le-ltb 4 it-num h i && (absorbed A (gap_of A x) dp && absorbed A (gap_of A x) dq))
+  pub cleared_early : it-num ≤ 4 → false ≡ Cleared
+  cleared_early h = sym (λ i. le-ltb 4 it-num h i && (absorbed A (gap_of A x) dp && absorbed A (gap_of A x) dq))
 
   module _ (thresh : Float) (b : Bool) (eb : b ≡ Cleared) where
-    pub choose-clear : b ≡ true → Clear ≡ choice_of A thresh it-num x dp dq
+    pub choose_clear : b ≡ true → Clear ≡ choice_of A thresh it-num x dp dq
     unfolding choice_of
-    choose-clear t = sym (ap (λ (c : Bool). cond c Clear (cond (le thresh (absOf (A.re x))) Rotate Keep)) (sym eb ∙ t))
+    choose_clear t = sym (ap (λ (c : Bool). cond c Clear (cond (le thresh (abs_of (A.re x))) Rotate Keep)) (sym eb ∙ t))
 
-    module _ (f : b ≡ false) (size : Float) (es : size ≡ absOf (A.re x)) where
+    module _ (f : b ≡ false) (size : Float) (es : size ≡ abs_of (A.re x)) where
       beyond : (t : Bool) → le thresh size ≡ t → cond t Rotate Keep ≡ choice_of A thresh it-num x dp dq
       unfolding choice_of
       beyond t h = sym (λ i. cond ((sym eb ∙ f) i) Clear (cond ((ap (le thresh) (sym es) ∙ h) i) Rotate Keep))
 
-      pub choose-rotate : le thresh size ≡ true → Rotate ≡ choice_of A thresh it-num x dp dq
-      choose-rotate h = beyond true h
+      pub choose_rotate : le thresh size ≡ true → Rotate ≡ choice_of A thresh it-num x dp dq
+      choose_rotate h = beyond true h
 
-      pub choose-keep : le thresh size ≡ false → Keep ≡ choice_of A thresh it-num x dp dq
-      choose-keep h = beyond false h
+      pub choose_keep : le thresh size ≡ false → Keep ≡ choice_of A thresh it-num x dp dq
+      choose_keep h = beyond false h
 
 -- ---- the tangent
 
 module _ {R : Type 0} (A : Algebra R) where
   -- from theta: the magnitude, the root, their sum, its reciprocal, and the sign
-  module _ (theta size root sum t : R) (b : Bool) (es : size ≡ magnitude A theta) (eh : root ≡ hypotenuseOf A theta) (em : sum ≡ A.add size root) (et : t ≡ recipOf A sum) (eb : b ≡ sign_of (A.re theta)) where
-    signed : (s : Bool) → b ≡ s → cond s (A.neg t) t ≡ tangentOf A theta
-    unfolding tangentOf
+  module _ (theta size root sum t : R) (b : Bool) (es : size ≡ magnitude A theta) (eh : root ≡ hypotenuse_of A theta) (em : sum ≡ A.add size root) (et : t ≡ recip_of A sum) (eb : b ≡ sign_of (A.re theta)) where
+    signed : (s : Bool) → b ≡ s → cond s (A.neg t) t ≡ tangent_of A theta
+    unfolding tangent_of
     signed s e =
-        let quotient = et ∙ ap (recipOf A) (em ∙ (λ i. A.add (es i) (eh i))) in
+        let quotient = et ∙ ap (recip_of A) (em ∙ (λ i. A.add (es i) (eh i))) in
         λ i. cond ((sym e ∙ eb) i) (A.neg (quotient i)) (quotient i)
 
-    pub tangent-negated : (r : R) → b ≡ true → r ≡ A.neg t → r ≡ tangentOf A theta
-    tangent-negated r e er = er ∙ signed true e
+    pub tangent_negated : (r : R) → b ≡ true → r ≡ A.neg t → r ≡ tangent_of A theta
+    tangent_negated r e er = er ∙ signed true e
 
-    pub tangent-kept : b ≡ false → t ≡ tangentOf A theta
-    tangent-kept e = signed false e
+    pub tangent_kept : b ≡ false → t ≡ tangent_of A theta
+    tangent_kept e = signed false e
 
   -- from the entry x and the difference h: h's magnitude, the gap, their sum, and whether it is the magnitude still
   module _ (x h size gapq sum : R) (b : Bool) (es : size ≡ magnitude A h) (eg : gapq ≡ gap_of A x) (em : sum ≡ A.add size gapq) (eb : b ≡ eq (A.re sum) (A.re size)) where
-    by-test : (t : Bool) → b ≡ t → cond t (A.div x h) (tangentOf A (A.div (A.mulFloat h half) x)) ≡ rotationTangent A x h
-    unfolding rotationTangent
-    by-test t et =
+    by_test : (t : Bool) → b ≡ t → cond t (A.div x h) (tangent_of A (A.div (A.mul_float h half) x)) ≡ rotation_tangent A x h
+    unfolding rotation_tangent
+    by_test t et =
         let sums = em ∙ (λ i. A.add (es i) (eg i)) in
         let test = sym et ∙ eb ∙ (λ i. eq (A.re (sums i)) (A.re (es i))) in
-        ap (λ (c : Bool). cond c (A.div x h) (tangentOf A (A.div (A.mulFloat h half) x))) test
+        ap (λ (c : Bool). cond c (A.div x h) (tangent_of A (A.div (A.mul_float h half) x))) test
 
-    pub tangent-small : (r : R) → b ≡ true → r ≡ A.div x h → r ≡ rotationTangent A x h
-    tangent-small r e er = er ∙ by-test true e
+    pub tangent_small : (r : R) → b ≡ true → r ≡ A.div x h → r ≡ rotation_tangent A x h
+    tangent_small r e er = er ∙ by_test true e
 
-    pub tangent-large : (u v r : R) → b ≡ false → u ≡ A.mulFloat h half → v ≡ A.div u x → r ≡ tangentOf A v → r ≡ rotationTangent A x h
-    tangent-large u v r e eu ev er = er ∙ ap (tangentOf A) (ev ∙ ap (λ (y : R). A.div y x) eu) ∙ by-test false e
+    pub tangent_large : (u v r : R) → b ≡ false → u ≡ A.mul_float h half → v ≡ A.div u x → r ≡ tangent_of A v → r ≡ rotation_tangent A x h
+    tangent_large u v r e eu ev er = er ∙ ap (tangent_of A) (ev ∙ ap (λ (y : R). A.div y x) eu) ∙ by_test false e

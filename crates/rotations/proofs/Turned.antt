@@ -7,7 +7,7 @@ use Rattle.algebra.specs.Algebra.{Algebra, zero_of}
 use Rattle.matrices.specs.Matrix.{cell, store}
 use Rattle.rotations.specs.declared.Choice.{Choice}
 use Rattle.rotations.specs.declared.Choice.TheVariants.{Keep, Clear, Rotate}
-use Rattle.rotations.specs.Rotation.{Angle, angle, Work, work, choice_of, angleOf, item, shift, turnColumns, turnBetween, turnRows, turnAbove, rotate, act, pair}
+use Rattle.rotations.specs.Rotation.{Angle, angle, Work, work, choice_of, angle_of, item, shift, turn_columns, turn_between, turn_rows, turn_above, rotate, act, pair}
 
 -- the entry (p, q) and the two diagonal entries beside it, as they were read
 pub record Entries {R : Type 0} (A : Algebra R) (n p q : ℕ) (a d : List R) (x dp dq : R) : Type 0 where
@@ -16,17 +16,17 @@ pub record Entries {R : Type 0} (A : Algebra R) (n p q : ℕ) (a d : List R) (x 
   pub second : dq ≡ item A d q
 
 module _ {R : Type 0} (A : Algebra R) (n p q : ℕ) where
-  pub above-by : (s tau : R) (a a1 a2 a3 a4 : List R) → a1 ≡ store A n a p q (zero_of A) → a2 ≡ turnColumns A n s tau p q p a1
-      → a3 ≡ turnBetween A n s tau p q a2 → a4 ≡ turnRows A n s tau p q a3 → a4 ≡ turnAbove A n s tau p q a
-  unfolding turnAbove
-  above-by s tau a a1 a2 a3 a4 e1 e2 e3 e4 = e4 ∙ ap (turnRows A n s tau p q) (e3 ∙ ap (turnBetween A n s tau p q) (e2 ∙ ap (turnColumns A n s tau p q p) e1))
+  pub above_by : (s tau : R) (a a1 a2 a3 a4 : List R) → a1 ≡ store A n a p q (zero_of A) → a2 ≡ turn_columns A n s tau p q p a1
+      → a3 ≡ turn_between A n s tau p q a2 → a4 ≡ turn_rows A n s tau p q a3 → a4 ≡ turn_above A n s tau p q a
+  unfolding turn_above
+  above_by s tau a a1 a2 a3 a4 e1 e2 e3 e4 = e4 ∙ ap (turn_rows A n s tau p q) (e3 ∙ ap (turn_between A n s tau p q) (e2 ∙ ap (turn_columns A n s tau p q p) e1))
 
   -- what is worked on before: the matrix, the vectors, the diagonal, its gains and the rotations
   module _ (a v d zw : List R) (rotations : ℕ) where
-    pub rotate-by : (s tau h : R) (a' v' d' zw' : List R) → a' ≡ turnAbove A n s tau p q a → v' ≡ turnColumns A n s tau p q n v
+    pub rotate_by : (s tau h : R) (a' v' d' zw' : List R) → a' ≡ turn_above A n s tau p q a → v' ≡ turn_columns A n s tau p q n v
         → d' ≡ shift A p q h d → zw' ≡ shift A p q h zw → work a' v' d' zw' (rotations + 1) ≡ rotate A n p q (angle s tau h) (work a v d zw rotations)
     unfolding rotate
-    rotate-by s tau h a' v' d' zw' ea ev ed ez = λ i. work (ea i) (ev i) (ed i) (ez i) (rotations + 1)
+    rotate_by s tau h a' v' d' zw' ea ev ed ez = λ i. work (ea i) (ev i) (ed i) (ez i) (rotations + 1)
 
     -- an entry by its three choices
     module _ (thresh : Float) (it-num : ℕ) (x dp dq : R) (c : Choice) (e : Entries A n p q a d x dp dq) (ec : c ≡ choice_of A thresh it-num x dp dq) where
@@ -34,15 +34,15 @@ module _ {R : Type 0} (A : Algebra R) (n p q : ℕ) where
       unfolding pair
       chosen k h = ap (λ (j : Choice). act A n p q j (work a v d zw rotations)) (sym (ec ∙ (λ i. choice_of A thresh it-num (e.entry i) (e.first i) (e.second i))) ∙ h)
 
-      pub pair-keep : c ≡ Keep → work a v d zw rotations ≡ pair A n thresh it-num p q (work a v d zw rotations)
+      pub pair_keep : c ≡ Keep → work a v d zw rotations ≡ pair A n thresh it-num p q (work a v d zw rotations)
       unfolding act
-      pair-keep h = sym (chosen Keep h)
+      pair_keep h = sym (chosen Keep h)
 
-      pub pair-clear : (a' : List R) → c ≡ Clear → a' ≡ store A n a p q (zero_of A) → work a' v d zw rotations ≡ pair A n thresh it-num p q (work a v d zw rotations)
+      pub pair_clear : (a' : List R) → c ≡ Clear → a' ≡ store A n a p q (zero_of A) → work a' v d zw rotations ≡ pair A n thresh it-num p q (work a v d zw rotations)
       unfolding act
-      pair-clear a' h s = ap (λ (l : List R). work l v d zw rotations) s ∙ sym (chosen Clear h)
+      pair_clear a' h s = ap (λ (l : List R). work l v d zw rotations) s ∙ sym (chosen Clear h)
 
-      pub pair-rotate : (t : Angle R) (r : Work R) → c ≡ Rotate → t ≡ angleOf A x dp dq → r ≡ rotate A n p q t (work a v d zw rotations) → r ≡ pair A n thresh it-num p q (work a v d zw rotations)
+      pub pair_rotate : (t : Angle R) (r : Work R) → c ≡ Rotate → t ≡ angle_of A x dp dq → r ≡ rotate A n p q t (work a v d zw rotations) → r ≡ pair A n thresh it-num p q (work a v d zw rotations)
       unfolding act
-      pair-rotate t r h et er =
-          er ∙ ap (λ (u : Angle R). rotate A n p q u (work a v d zw rotations)) (et ∙ (λ i. angleOf A (e.entry i) (e.first i) (e.second i))) ∙ sym (chosen Rotate h)
+      pair_rotate t r h et er =
+          er ∙ ap (λ (u : Angle R). rotate A n p q u (work a v d zw rotations)) (et ∙ (λ i. angle_of A (e.entry i) (e.first i) (e.second i))) ∙ sym (chosen Rotate h)

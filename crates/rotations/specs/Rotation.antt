@@ -2,10 +2,10 @@
 use Rattle.std.specs.Prelude.{ℕ, ◌+◌, Bool, cond, ◌&&◌, List, ltb, get_or, set, Float}
 use Rattle.std.specs.Float.Ieee.{eq, le}
 use Rattle.real.specs.Operations.{one, half, ten}
-use Rattle.real.specs.Sign.{sign_of, absOf}
-use Rattle.algebra.specs.Algebra.{Algebra, zero_of, addFloat, magnitude}
+use Rattle.real.specs.Sign.{sign_of, abs_of}
+use Rattle.algebra.specs.Algebra.{Algebra, zero_of, add_float, magnitude}
 use Rattle.algebra.specs.Loop.{upto}
-use Rattle.derivatives.specs.Apply.{recipOf, sqrtOf}
+use Rattle.derivatives.specs.Apply.{recip_of, sqrt_of}
 use Rattle.matrices.specs.Matrix.{cell, store}
 use Rattle.rotations.specs.declared.Choice.{Choice}
 use Rattle.rotations.specs.declared.Choice.TheVariants.{Keep, Clear, Rotate}
@@ -33,7 +33,7 @@ work a v d zw rotations = record { a = a; v = v; d = d; zw = zw; rotations = rot
 module _ {R : Type 0} (A : Algebra R) where
   -- gapq: |x| * 10
   abbrev pub gap_of : R → R
-  gap_of x = A.mulFloat (magnitude A x) ten
+  gap_of x = A.mul_float (magnitude A x) ten
 
   -- gapq + |d| == |d|
   unfoldable pub absorbed : R → R → Bool
@@ -44,43 +44,43 @@ module _ {R : Type 0} (A : Algebra R) where
   choice_of thresh it-num x dp dq =
       cond (ltb 4 it-num && (absorbed (gap_of x) dp && absorbed (gap_of x) dq))
       Clear
-      (cond (le thresh (absOf (A.re x))) Rotate Keep)
+      (cond (le thresh (abs_of (A.re x))) Rotate Keep)
 
   -- sqrt(x * x + 1)
-  unfoldable pub hypotenuseOf : R → R
-  hypotenuseOf x = sqrtOf A (addFloat A (A.mul x x) one)
+  unfoldable pub hypotenuse_of : R → R
+  hypotenuse_of x = sqrt_of A (add_float A (A.mul x x) one)
 
   -- 1 / (|theta| + sqrt(theta * theta + 1)), negated where theta has the sign bit
-  unfoldable pub tangentOf : R → R
-  tangentOf theta =
-      let t = recipOf A (A.add (magnitude A theta) (hypotenuseOf theta)) in
+  unfoldable pub tangent_of : R → R
+  tangent_of theta =
+      let t = recip_of A (A.add (magnitude A theta) (hypotenuse_of theta)) in
       cond (sign_of (A.re theta)) (A.neg t) t
 
   -- t, for the entry x and the difference h of the diagonal entries: x / h where |h| + gapq == |h|
-  unfoldable pub rotationTangent : R → R → R
-  rotationTangent x h =
+  unfoldable pub rotation_tangent : R → R → R
+  rotation_tangent x h =
       cond (eq (A.re (A.add (magnitude A h) (gap_of x))) (A.re (magnitude A h)))
       (A.div x h)
-      (tangentOf (A.div (A.mulFloat h half) x))
+      (tangent_of (A.div (A.mul_float h half) x))
 
   -- from t: c = 1 / sqrt(t * t + 1), s = t * c, tau = s / (c + 1), h = t * x
-  unfoldable pub angleBy : R → R → Angle R
-  angleBy x t =
-      let c = recipOf A (hypotenuseOf t) in
+  unfoldable pub angle_by : R → R → Angle R
+  angle_by x t =
+      let c = recip_of A (hypotenuse_of t) in
       let s = A.mul t c in
-      angle s (A.div s (addFloat A c one)) (A.mul t x)
+      angle s (A.div s (add_float A c one)) (A.mul t x)
 
   -- the angle of the entry x between dp and dq
-  abbrev pub angleOf : R → R → R → Angle R
-  angleOf x dp dq = angleBy x (rotationTangent x (A.sub dq dp))
+  abbrev pub angle_of : R → R → R → Angle R
+  angle_of x dp dq = angle_by x (rotation_tangent x (A.sub dq dp))
 
   -- g - s * (h + g * tau)
-  unfoldable pub turnedFirst : R → R → R → R → R
-  turnedFirst s tau g h = A.sub g (A.mul s (A.add h (A.mul g tau)))
+  unfoldable pub turned_first : R → R → R → R → R
+  turned_first s tau g h = A.sub g (A.mul s (A.add h (A.mul g tau)))
 
   -- h + s * (g - h * tau)
-  unfoldable pub turnedSecond : R → R → R → R → R
-  turnedSecond s tau g h = A.add h (A.mul s (A.sub g (A.mul h tau)))
+  unfoldable pub turned_second : R → R → R → R → R
+  turned_second s tau g h = A.add h (A.mul s (A.sub g (A.mul h tau)))
 
   -- element p of a vector
   abbrev pub item : List R → ℕ → R
@@ -96,30 +96,30 @@ module _ {R : Type 0} (A : Algebra R) where
     turn s tau r c u w m =
         let g = cell A n m r c in
         let h = cell A n m u w in
-        store A n (store A n m r c (turnedFirst s tau g h)) u w (turnedSecond s tau g h)
+        store A n (store A n m r c (turned_first s tau g h)) u w (turned_second s tau g h)
 
     -- for j in 0..rows: (j, p) and (j, q)
-    unfoldable pub turnColumns : R → R → ℕ → ℕ → ℕ → List R → List R
-    turnColumns s tau p q rows m = upto 0 rows (λ j. turn s tau j p j q) m
+    unfoldable pub turn_columns : R → R → ℕ → ℕ → ℕ → List R → List R
+    turn_columns s tau p q rows m = upto 0 rows (λ j. turn s tau j p j q) m
 
     -- for j in p + 1..q: (p, j) and (j, q)
-    unfoldable pub turnBetween : R → R → ℕ → ℕ → List R → List R
-    turnBetween s tau p q m = upto (p + 1) q (λ j. turn s tau p j j q) m
+    unfoldable pub turn_between : R → R → ℕ → ℕ → List R → List R
+    turn_between s tau p q m = upto (p + 1) q (λ j. turn s tau p j j q) m
 
     -- for j in q + 1..n: (p, j) and (q, j)
-    unfoldable pub turnRows : R → R → ℕ → ℕ → List R → List R
-    turnRows s tau p q m = upto (q + 1) n (λ j. turn s tau p j q j) m
+    unfoldable pub turn_rows : R → R → ℕ → ℕ → List R → List R
+    turn_rows s tau p q m = upto (q + 1) n (λ j. turn s tau p j q j) m
 
     -- a[(p, q)] = 0, then the three loops over the part above the diagonal
-    unfoldable pub turnAbove : R → R → ℕ → ℕ → List R → List R
-    turnAbove s tau p q a = turnRows s tau p q (turnBetween s tau p q (turnColumns s tau p q p (store A n a p q (zero_of A))))
+    unfoldable pub turn_above : R → R → ℕ → ℕ → List R → List R
+    turn_above s tau p q a = turn_rows s tau p q (turn_between s tau p q (turn_columns s tau p q p (store A n a p q (zero_of A))))
 
     -- the whole rotation
     unfoldable pub rotate : ℕ → ℕ → Angle R → Work R → Work R
     rotate p q t w =
         work
-        (turnAbove t.s t.tau p q w.a)
-        (turnColumns t.s t.tau p q n w.v)
+        (turn_above t.s t.tau p q w.a)
+        (turn_columns t.s t.tau p q n w.v)
         (shift p q t.h w.d)
         (shift p q t.h w.zw)
         (w.rotations + 1)
@@ -128,7 +128,7 @@ module _ {R : Type 0} (A : Algebra R) where
     unfoldable pub act : ℕ → ℕ → Choice → Work R → Work R
     act p q Keep w = w
     act p q Clear w = work (store A n w.a p q (zero_of A)) w.v w.d w.zw w.rotations
-    act p q Rotate w = rotate p q (angleOf (cell A n w.a p q) (item w.d p) (item w.d q)) w
+    act p q Rotate w = rotate p q (angle_of (cell A n w.a p q) (item w.d p) (item w.d q)) w
 
     -- the entry (p, q) of sweep it_num
     unfoldable pub pair : Float → ℕ → ℕ → ℕ → Work R → Work R

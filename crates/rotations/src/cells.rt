@@ -3,7 +3,7 @@ ghost use Rattle.std.specs.Prelude.{◌≡◌, ◌+◌, ◌*◌, ◌<◌, length
 ghost use Rattle.algebra.specs.Algebra.{zero_of};
 ghost use Rattle.matrices.specs.Matrix as rule;
 ghost use Rattle.matrices.specs.Matrix.{Square, cell, store};
-ghost use Rattle.dual.specs.Rules.{dualAlgebra, dualRecords};
+ghost use Rattle.dual.specs.Rules.{dual_algebra, dual_records};
 
 use dual::{Dual, read, write};
 
@@ -11,7 +11,7 @@ use dual::{Dual, read, write};
 pub fn get(n: usize, a: &[f64], r: usize, c: usize) -> Dual
     requires square { Square 2 n a.now }
     requires r_lt_n { (r < n) × (c < n) }
-    ensures { result ≡ cell dualAlgebra n (dualRecords a.now) r c }
+    ensures { result ≡ cell dual_algebra n (dual_records a.now) r c }
 {
     read(a, r * n + c)
 }
@@ -21,7 +21,7 @@ pub fn put(n: usize, a: &mut [f64], r: usize, c: usize, x: Dual)
     requires square { Square 2 n a.old }
     requires r_lt_n { (r < n) × (c < n) }
     ensures square_2 { Square 2 n a.new }
-    ensures a_after { dualRecords a.new ≡ store dualAlgebra n (dualRecords a.old) r c x }
+    ensures a_after { dual_records a.new ≡ store dual_algebra n (dual_records a.old) r c x }
 {
     write(a, r * n + c, x);
 }
@@ -30,7 +30,7 @@ pub fn put(n: usize, a: &mut [f64], r: usize, c: usize, x: Dual)
 pub fn exchange(a: &mut [f64], p: usize, q: usize)
     requires p_in_bounds { p * 2 + 1 < length a.old }
     requires q_in_bounds { q * 2 + 1 < length a.old }
-    ensures { dualRecords a.new ≡ rule.exchange (zero_of dualAlgebra) p q (dualRecords a.old) }
+    ensures { dual_records a.new ≡ rule.exchange (zero_of dual_algebra) p q (dual_records a.old) }
 {
     let x = read(a, p);
     let y = read(a, q);

@@ -1,22 +1,22 @@
 // What is done with an entry above the diagonal, and the angle that rotates it away: from the entry and the two diagonal entries alone.
 ghost use Rattle.std.specs.Prelude.{◌≡◌, ◌&&◌, ltb};
-ghost use Rattle.dual.specs.Rules.{dualAlgebra};
-ghost use Rattle.rotations.specs.Rotation.{gap_of, absorbed, choice_of, hypotenuseOf, tangentOf, rotationTangent, angleBy, angleOf};
-ghost use Rattle.rotations.specs.Buffers.{angleParts};
+ghost use Rattle.dual.specs.Rules.{dual_algebra};
+ghost use Rattle.rotations.specs.Rotation.{gap_of, absorbed, choice_of, hypotenuse_of, tangent_of, rotation_tangent, angle_by, angle_of};
+ghost use Rattle.rotations.specs.Buffers.{angle_parts};
 
 use super::{Angle, Choice};
 use dual::Dual;
 
 // gapq: |x| * 10
 fn gap(x: Dual) -> Dual
-    ensures { result ≡ gap_of dualAlgebra x }
+    ensures { result ≡ gap_of dual_algebra x }
 {
     x.abs().mul_float(10.0)
 }
 
 // gapq + |d| == |d|
 fn is_absorbed(gapq: Dual, d: Dual) -> bool
-    ensures { result ≡ absorbed dualAlgebra gapq d }
+    ensures { result ≡ absorbed dual_algebra gapq d }
 {
     let size = d.abs();
     gapq.add(size).eq(size)
@@ -24,7 +24,7 @@ fn is_absorbed(gapq: Dual, d: Dual) -> bool
 
 // The entry x is small beside dp and dq, and the sweep is late enough to clear it.
 fn is_cleared(it_num: usize, x: Dual, dp: Dual, dq: Dual) -> bool
-    ensures { result ≡ (ltb 4 it_num && (absorbed dualAlgebra (gap_of dualAlgebra x) dp && absorbed dualAlgebra (gap_of dualAlgebra x) dq)) }
+    ensures { result ≡ (ltb 4 it_num && (absorbed dual_algebra (gap_of dual_algebra x) dp && absorbed dual_algebra (gap_of dual_algebra x) dq)) }
 {
     let gapq = gap(x);
     if 4 < it_num {
@@ -38,7 +38,7 @@ fn is_cleared(it_num: usize, x: Dual, dp: Dual, dq: Dual) -> bool
 
 // What is done with the entry x between dp and dq.
 pub(crate) fn choose(thresh: f64, it_num: usize, x: Dual, dp: Dual, dq: Dual) -> Choice
-    ensures { result ≡ choice_of dualAlgebra thresh it_num x dp dq }
+    ensures { result ≡ choice_of dual_algebra thresh it_num x dp dq }
 {
     if is_cleared(it_num, x, dp, dq) {
         return Choice::Clear;
@@ -51,14 +51,14 @@ pub(crate) fn choose(thresh: f64, it_num: usize, x: Dual, dp: Dual, dq: Dual) ->
 
 // sqrt(x * x + 1)
 fn hypotenuse(x: Dual) -> Dual
-    ensures { result ≡ hypotenuseOf dualAlgebra x }
+    ensures { result ≡ hypotenuse_of dual_algebra x }
 {
     x.mul(x).add_float(1.0).sqrt()
 }
 
 // The tangent from theta.
 fn tangent(theta: Dual) -> Dual
-    ensures { result ≡ tangentOf dualAlgebra theta }
+    ensures { result ≡ tangent_of dual_algebra theta }
 {
     let t = theta.abs().add(hypotenuse(theta)).recip();
     if theta.is_negative() { t.neg() } else { t }
@@ -66,7 +66,7 @@ fn tangent(theta: Dual) -> Dual
 
 // The tangent for the entry x and the difference h of the diagonal entries.
 fn rotation_tangent(x: Dual, h: Dual) -> Dual
-    ensures { result ≡ rotationTangent dualAlgebra x h }
+    ensures { result ≡ rotation_tangent dual_algebra x h }
 {
     let size = h.abs();
     if size.add(gap(x)).eq(size) {
@@ -77,7 +77,7 @@ fn rotation_tangent(x: Dual, h: Dual) -> Dual
 
 // The angle from the tangent.
 fn angle_by(x: Dual, t: Dual) -> Angle
-    ensures { angleParts result ≡ angleBy dualAlgebra x t }
+    ensures { angle_parts result ≡ angle_by dual_algebra x t }
 {
     let c = hypotenuse(t).recip();
     let s = t.mul(c);
@@ -90,7 +90,7 @@ fn angle_by(x: Dual, t: Dual) -> Angle
 
 // The angle that rotates away the entry x between dp and dq.
 pub(crate) fn angle(x: Dual, dp: Dual, dq: Dual) -> Angle
-    ensures { angleParts result ≡ angleOf dualAlgebra x dp dq }
+    ensures { angle_parts result ≡ angle_of dual_algebra x dp dq }
 {
     angle_by(x, rotation_tangent(x, dq.sub(dp)))
 }

@@ -1,9 +1,9 @@
 // One entry above the diagonal, by what is chosen for it.
 ghost use Rattle.std.specs.Prelude.{◌≡◌, ◌+◌, ◌<◌, ◌≤◌};
-ghost use Rattle.dual.specs.Rules.{dualAlgebra};
+ghost use Rattle.dual.specs.Rules.{dual_algebra};
 ghost use Rattle.rotations.specs.Rotation.{angle, pair};
 ghost use Rattle.rotations.specs.Rotation as rule;
-ghost use Rattle.rotations.specs.Buffers.{Sized, manyRotations, workOf};
+ghost use Rattle.rotations.specs.Buffers.{Sized, many_rotations, work_of};
 
 use super::cells::{get, put};
 use super::{Choice, choose, turn};
@@ -25,10 +25,10 @@ fn rotate(
 ) -> usize
     requires sized { Sized n a.old v.old d.old zw.old }
     requires p_lt_q { (p < q) × (q < n) }
-    requires rotations_lt_many_rotations { rotations < manyRotations }
+    requires rotations_lt_many_rotations { rotations < many_rotations }
     ensures sized_2 { Sized n a.new v.new d.new zw.new }
-    ensures result_after { workOf a.new v.new d.new zw.new result
-        ≡ rule.rotate dualAlgebra n p q (angle s tau h) (workOf a.old v.old d.old zw.old rotations) }
+    ensures result_after { work_of a.new v.new d.new zw.new result
+        ≡ rule.rotate dual_algebra n p q (angle s tau h) (work_of a.old v.old d.old zw.old rotations) }
     ensures value { result ≡ rotations + 1 }
 {
     turn::shift(zw, p, q, h);
@@ -53,10 +53,10 @@ pub fn pair(
 ) -> usize
     requires sized { Sized n a.old v.old d.old zw.old }
     requires p_lt_q { (p < q) × (q < n) }
-    requires rotations_lt_many_rotations { rotations < manyRotations }
+    requires rotations_lt_many_rotations { rotations < many_rotations }
     ensures sized_2 { Sized n a.new v.new d.new zw.new }
-    ensures result_after { workOf a.new v.new d.new zw.new result
-        ≡ rule.pair dualAlgebra n thresh it_num p q (workOf a.old v.old d.old zw.old rotations) }
+    ensures result_after { work_of a.new v.new d.new zw.new result
+        ≡ rule.pair dual_algebra n thresh it_num p q (work_of a.old v.old d.old zw.old rotations) }
     ensures upper_bound { result ≤ rotations + 1 }
 {
     let x = get(n, a, p, q);

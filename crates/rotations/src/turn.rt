@@ -1,23 +1,23 @@
 // The loops of a rotation.
 ghost use Rattle.std.specs.Prelude.{◌≡◌, ◌+◌, ◌*◌, ◌<◌, ◌≤◌, length};
-ghost use Rattle.dual.specs.Rules.{dualAlgebra, dualRecords};
+ghost use Rattle.dual.specs.Rules.{dual_algebra, dual_records};
 ghost use Rattle.matrices.specs.Matrix.{Square};
 ghost use Rattle.rotations.specs.Rotation as rule;
-ghost use Rattle.rotations.specs.Rotation.{turnedFirst, turnedSecond, turnColumns, turnBetween, turnRows, turnAbove};
+ghost use Rattle.rotations.specs.Rotation.{turned_first, turned_second, turn_columns, turn_between, turn_rows, turn_above};
 
 use super::cells::{get, put};
 use dual::{Dual, read, write};
 
 // g - s * (h + g * tau)
 fn turned_first(s: Dual, tau: Dual, g: Dual, h: Dual) -> Dual
-    ensures { result ≡ turnedFirst dualAlgebra s tau g h }
+    ensures { result ≡ turned_first dual_algebra s tau g h }
 {
     g.sub(s.mul(h.add(g.mul(tau))))
 }
 
 // h + s * (g - h * tau)
 fn turned_second(s: Dual, tau: Dual, g: Dual, h: Dual) -> Dual
-    ensures { result ≡ turnedSecond dualAlgebra s tau g h }
+    ensures { result ≡ turned_second dual_algebra s tau g h }
 {
     h.add(s.mul(g.sub(h.mul(tau))))
 }
@@ -28,7 +28,7 @@ fn turn(n: usize, a: &mut [f64], s: Dual, tau: Dual, r: usize, c: usize, u: usiz
     requires r_lt_n { (r < n) × (c < n) }
     requires u_lt_n { (u < n) × (w < n) }
     ensures square_2 { Square 2 n a.new }
-    ensures a_after { dualRecords a.new ≡ rule.turn dualAlgebra n s tau r c u w (dualRecords a.old) }
+    ensures a_after { dual_records a.new ≡ rule.turn dual_algebra n s tau r c u w (dual_records a.old) }
 {
     let g = get(n, a, r, c);
     let h = get(n, a, u, w);
@@ -50,7 +50,7 @@ pub(crate) fn turn_columns(
     requires p_lt_n { (p < n) × (q < n) }
     requires rows_le_n { rows ≤ n }
     ensures square_2 { Square 2 n a.new }
-    ensures a_after { dualRecords a.new ≡ turnColumns dualAlgebra n s tau p q rows (dualRecords a.old) }
+    ensures a_after { dual_records a.new ≡ turn_columns dual_algebra n s tau p q rows (dual_records a.old) }
 {
     for j in 0..rows {
         turn(n, a, s, tau, j, p, j, q);
@@ -62,7 +62,7 @@ fn turn_between(n: usize, a: &mut [f64], s: Dual, tau: Dual, p: usize, q: usize)
     requires square { Square 2 n a.old }
     requires p_lt_q { (p < q) × (q < n) }
     ensures square_2 { Square 2 n a.new }
-    ensures a_after { dualRecords a.new ≡ turnBetween dualAlgebra n s tau p q (dualRecords a.old) }
+    ensures a_after { dual_records a.new ≡ turn_between dual_algebra n s tau p q (dual_records a.old) }
 {
     for j in p + 1..q {
         turn(n, a, s, tau, p, j, j, q);
@@ -74,7 +74,7 @@ fn turn_rows(n: usize, a: &mut [f64], s: Dual, tau: Dual, p: usize, q: usize)
     requires square { Square 2 n a.old }
     requires p_lt_q { (p < q) × (q < n) }
     ensures square_2 { Square 2 n a.new }
-    ensures a_after { dualRecords a.new ≡ turnRows dualAlgebra n s tau p q (dualRecords a.old) }
+    ensures a_after { dual_records a.new ≡ turn_rows dual_algebra n s tau p q (dual_records a.old) }
 {
     for j in q + 1..n {
         turn(n, a, s, tau, p, j, q, j);
@@ -86,7 +86,7 @@ pub(crate) fn turn_above(n: usize, a: &mut [f64], s: Dual, tau: Dual, p: usize, 
     requires square { Square 2 n a.old }
     requires p_lt_q { (p < q) × (q < n) }
     ensures square_2 { Square 2 n a.new }
-    ensures a_after { dualRecords a.new ≡ turnAbove dualAlgebra n s tau p q (dualRecords a.old) }
+    ensures a_after { dual_records a.new ≡ turn_above dual_algebra n s tau p q (dual_records a.old) }
 {
     put(n, a, p, q, Dual::ZERO);
     turn_columns(n, a, s, tau, p, q, p);
@@ -98,7 +98,7 @@ pub(crate) fn turn_above(n: usize, a: &mut [f64], s: Dual, tau: Dual, p: usize, 
 pub(crate) fn shift(d: &mut [f64], p: usize, q: usize, h: Dual)
     requires p_in_bounds { p * 2 + 1 < length d.old }
     requires q_in_bounds { q * 2 + 1 < length d.old }
-    ensures { dualRecords d.new ≡ rule.shift dualAlgebra p q h (dualRecords d.old) }
+    ensures { dual_records d.new ≡ rule.shift dual_algebra p q h (dual_records d.old) }
 {
     let x = read(d, p);
     write(d, p, x.sub(h));

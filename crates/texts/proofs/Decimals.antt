@@ -10,7 +10,7 @@ use lib.ListN.{length, length-append}
 use borrow.Author.Tests.{ltb-true, ltb-false, lt-ltb, le-ltb}
 use Rattle.io.specs.Digits.{last_digits, IsDigitCount}
 use Rattle.texts.specs.Page.{Page, written}
-use Rattle.texts.specs.Numbers.{places, decimalText, hexText}
+use Rattle.texts.specs.Numbers.{places, decimal_text, hex_text}
 
 -- the fewest digits are as many as `places` says
 pub places_is : (d n k : ℕ) → k ≤ suc d → IsDigitCount 10 1 n k → k ≡ places d n
@@ -32,8 +32,8 @@ places_is (suc d) n (suc (suc j)) h f =
         subst (λ (x : ℕ). 10 ^ x ≤ n / 10) (sym e) ((le-div_iff_mul-le (lit< tt)).1 (subst (λ (x : ℕ). x ≤ n) (pow-suc 10 j) low))
 
 -- a number below b ^ m has at most m digits in base b
-fewest-most : (b least n k m : ℕ) → 0 < b → least ≤ m → n < b ^ m → IsDigitCount b least n k → k ≤ m
-fewest-most b least n k m hb hl hn f = by (ltb m k) refl
+fewest_most : (b least n k m : ℕ) → 0 < b → least ≤ m → n < b ^ m → IsDigitCount b least n k → k ≤ m
+fewest_most b least n k m hb hl hn f = by (ltb m k) refl
   where
     by : (t : Bool) → ltb m k ≡ t → k ≤ m
     by true t = let h : m < k = ltb-true m k t in absurd (clash (f.2 (omega arith)) (pow-le-pow_right hb {i = m} {j = k - 1} (omega arith)) hn)
@@ -42,36 +42,36 @@ fewest-most b least n k m hb hl hn f = by (ltb m k) refl
         clash x y z = omega arith
     by false t = ltb-false m k t
 
-pub decimal-is : (n k : ℕ) → n < 2 ^ 64 → IsDigitCount 10 1 n k → last_digits 10 k n ≡ decimalText n
-unfolding decimalText
-decimal-is n k h f = ap (λ (x : ℕ). last_digits 10 x n) (places_is 19 n k (fewest-most 10 1 n k 20 (lit< tt) (lit≤ tt) (lt_of_lt_of_le h (lit≤ tt)) f) f)
+pub decimal_is : (n k : ℕ) → n < 2 ^ 64 → IsDigitCount 10 1 n k → last_digits 10 k n ≡ decimal_text n
+unfolding decimal_text
+decimal_is n k h f = ap (λ (x : ℕ). last_digits 10 x n) (places_is 19 n k (fewest_most 10 1 n k 20 (lit< tt) (lit≤ tt) (lt_of_lt_of_le h (lit≤ tt)) f) f)
 
-hex-is : (w k : ℕ) → w < 2 ^ 64 → IsDigitCount 16 16 w k → last_digits 16 k w ≡ hexText w
-unfolding hexText
-hex-is w k h f = let g : k ≤ 16 = fewest-most 16 16 w k 16 (lit< tt) (lit≤ tt) h f in ap (λ (x : ℕ). last_digits 16 x w) (let e : k ≡ 16 = omega (arith, f.0) in e)
+hex_is : (w k : ℕ) → w < 2 ^ 64 → IsDigitCount 16 16 w k → last_digits 16 k w ≡ hex_text w
+unfolding hex_text
+hex_is w k h f = let g : k ≤ 16 = fewest_most 16 16 w k 16 (lit< tt) (lit≤ tt) h f in ap (λ (x : ℕ). last_digits 16 x w) (let e : k ≡ 16 = omega (arith, f.0) in e)
 
 -- ---- written: the 16 digits of a word
-pub hex-written : (p q : Page) (l : List ℕ) (w k : ℕ) → q ≡ written p l → l ≡ last_digits 16 k w → IsDigitCount 16 16 w k → w < 2 ^ 64 → q ≡ written p (hexText w)
-hex-written p q l w k g e f h = g ∙ ap (written p) (e ∙ hex-is w k h f)
+pub hex_written : (p q : Page) (l : List ℕ) (w k : ℕ) → q ≡ written p l → l ≡ last_digits 16 k w → IsDigitCount 16 16 w k → w < 2 ^ 64 → q ≡ written p (hex_text w)
+hex_written p q l w k g e f h = g ∙ ap (written p) (e ∙ hex_is w k h f)
 
 -- ---- how long
 pub length_digits : (b k n : ℕ) → length (last_digits b k n) ≡ k
 length_digits b zero n = refl
 length_digits b (suc k) n = length-append (last_digits b k (n / b)) _ ∙ ap (λ (x : ℕ). x + 1) (length_digits b k (n / b)) ∙ (let e : k + 1 ≡ suc k = omega arith in e)
 
-length-places : (d n : ℕ) → places d n ≤ suc d
+length_places : (d n : ℕ) → places d n ≤ suc d
 unfolding places
-length-places zero n = omega arith
-length-places (suc d) n = by (ltb n 10) (length-places d (n / 10))
+length_places zero n = omega arith
+length_places (suc d) n = by (ltb n 10) (length_places d (n / 10))
   where
     by : {r : ℕ} (b : Bool) → r ≤ suc d → cond b 1 (suc r) ≤ suc (suc d)
     by true h = omega arith
     by false h = omega arith
 
-pub length-decimal : (n : ℕ) → length (decimalText n) ≤ 20
-unfolding decimalText
-length-decimal n = omega (arith, length_digits 10 (places 19 n) n, length-places 19 n)
+pub length_decimal : (n : ℕ) → length (decimal_text n) ≤ 20
+unfolding decimal_text
+length_decimal n = omega (arith, length_digits 10 (places 19 n) n, length_places 19 n)
 
-pub length-hex : (w : ℕ) → length (hexText w) ≡ 16
-unfolding hexText
-length-hex w = length_digits 16 16 w
+pub length_hex : (w : ℕ) → length (hex_text w) ≡ 16
+unfolding hex_text
+length_hex w = length_digits 16 16 w

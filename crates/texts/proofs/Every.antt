@@ -8,9 +8,9 @@ use borrow.Author.Count.{below_more}
 use borrow.Author.Tests.{ltb-true, ltb-false, eq-eqb, ne_eqb}
 use Rattle.texts.specs.Digits.{every}
 
-pub and-false : (b : Bool) → (b && false) ≡ false
-and-false true = refl
-and-false false = refl
+pub and_false : (b : Bool) → (b && false) ≡ false
+and_false true = refl
+and_false false = refl
 
 -- both of two tests
 pub both_true : (a b : Bool) → (a && b) ≡ true → (a ≡ true) × (b ≡ true)
@@ -21,8 +21,8 @@ both_true false b e = absurd (true≢false (sym e))
 pub read_same : (b x y : ℕ) → b ≡ x → b ≡ y → eqb x y ≡ true
 read_same b x y e h = eq-eqb x y (sym e ∙ h)
 
-pub read-other : (b x y : ℕ) → b ≡ x → (b ≡ y → ⊥) → eqb x y ≡ false
-read-other b x y e h = ne_eqb x y (λ z. h (e ∙ z))
+pub read_other : (b x y : ℕ) → b ≡ x → (b ≡ y → ⊥) → eqb x y ≡ false
+read_other b x y e h = ne_eqb x y (λ z. h (e ∙ z))
 
 module _ (p : ℕ → Bool) where
   pub every_true : (n : ℕ) → ((k : ℕ) → k < n → p k ≡ true) → every p n ≡ true
@@ -33,23 +33,23 @@ module _ (p : ℕ → Bool) where
   -- one number that fails, by whether it is the last
   at : (n k : ℕ) (b : Bool) → k < suc n → ltb k n ≡ b → (k < n → every p n ≡ false) → p k ≡ false → (every p n && p n) ≡ false
   at n k true lt t h e = ap (λ (b : Bool). b && p n) (h (ltb-true k n t))
-  at n k false lt t h e = ap (λ (b : Bool). every p n && b) (ap p (last n k lt (ltb-false k n t)) ∙ e) ∙ and-false (every p n)
+  at n k false lt t h e = ap (λ (b : Bool). every p n && b) (ap p (last n k lt (ltb-false k n t)) ∙ e) ∙ and_false (every p n)
     where
       last : (n k : ℕ) → k < suc n → n ≤ k → n ≡ k
       last n k lt le = omega arith
 
-  pub every-false : (n k : ℕ) → k < n → p k ≡ false → every p n ≡ false
+  pub every_false : (n k : ℕ) → k < n → p k ≡ false → every p n ≡ false
   unfolding every
-  every-false zero k lt e = absurd (omega arith)
-  every-false (suc n) k lt e = at n k (ltb k n) lt refl (λ h. every-false n k h e) e
+  every_false zero k lt e = absurd (omega arith)
+  every_false (suc n) k lt e = at n k (ltb k n) lt refl (λ h. every_false n k h e) e
 
   -- and back: what holds of every number below n holds of each
-  pub every-at : (n k : ℕ) → every p n ≡ true → k < n → p k ≡ true
-  every-at n k e h = by (p k) refl
+  pub every_at : (n k : ℕ) → every p n ≡ true → k < n → p k ≡ true
+  every_at n k e h = by (p k) refl
     where
       by : (b : Bool) → p k ≡ b → p k ≡ true
       by true t = t
-      by false t = absurd (true≢false (sym e ∙ every-false n k h t))
+      by false t = absurd (true≢false (sym e ∙ every_false n k h t))
 
 -- what the loop keeps: the numbers below i, of those below n, have passed
 pub record Passed (p : ℕ → Bool) (n i : ℕ) : Type 0 where
@@ -60,8 +60,8 @@ module _ (p : ℕ → Bool) (n : ℕ) where
   pub passed_none : Passed p n 0
   passed_none = record { within = omega arith; each = λ j h. absurd (omega arith) }
 
-  pub passed-more : (i : ℕ) → Passed p n i → i < n → p i ≡ true → Passed p n (i + 1)
-  passed-more i h lt e = record { within = omega arith; each = below_more (λ j. p j ≡ true) i h.each e }
+  pub passed_more : (i : ℕ) → Passed p n i → i < n → p i ≡ true → Passed p n (i + 1)
+  passed_more i h lt e = record { within = omega arith; each = below_more (λ j. p j ≡ true) i h.each e }
 
-  pub passed-all : (i : ℕ) → Passed p n i → n ≤ i → every p n ≡ true
-  passed-all i h le = every_true p n (λ k lt. h.each k (omega arith))
+  pub passed_all : (i : ℕ) → Passed p n i → n ≤ i → every p n ≡ true
+  passed_all i h le = every_true p n (λ k lt. h.each k (omega arith))

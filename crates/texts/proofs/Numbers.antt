@@ -9,25 +9,25 @@ use borrow.Author.Tests.{leb-true, lt-ltb, le-leb, lt-leb}
 use Rattle.texts.specs.declared.Number.{Number}
 use Rattle.texts.specs.declared.Number.TheVariants.{Is, Not}
 use Rattle.texts.specs.declared.Scan.{Scan}
-use Rattle.texts.specs.Digits.{digitRun, number_at, scanOf}
-use Rattle.texts.specs.Numbers.{numberFrom}
+use Rattle.texts.specs.Digits.{digit_run, number_at, scan_of}
+use Rattle.texts.specs.Numbers.{number_from}
 use Rattle.texts.proofs.Every.{both_true}
 
-module _ (most : ℕ) (text : List ℕ) (p : ℕ) (s : Scan) (scanned : s ≡ scanOf 10 (most + 1) text p) where
-  picked : (k : ℕ) (b : Bool) → k ≡ digitRun 10 (most + 1) text p → (ltb 0 k && leb k most) ≡ b → cond b (Is (number_at 10 text p k) (p + k)) Not ≡ numberFrom most text p
-  unfolding numberFrom
+module _ (most : ℕ) (text : List ℕ) (p : ℕ) (s : Scan) (scanned : s ≡ scan_of 10 (most + 1) text p) where
+  picked : (k : ℕ) (b : Bool) → k ≡ digit_run 10 (most + 1) text p → (ltb 0 k && leb k most) ≡ b → cond b (Is (number_at 10 text p k) (p + k)) Not ≡ number_from most text p
+  unfolding number_from
   picked k b e t = ap (λ (x : Bool). cond x (Is (number_at 10 text p k) (p + k)) Not) (sym t) ∙ ap (λ (j : ℕ). cond (ltb 0 j && leb j most) (Is (number_at 10 text p j) (p + j)) Not) e
 
-  run : s.digits ≡ digitRun 10 (most + 1) text p
+  run : s.digits ≡ digit_run 10 (most + 1) text p
   run = ap (λ (x : Scan). x.digits) scanned
 
-  pub number-none : s.digits ≡ 0 → Not ≡ numberFrom most text p
-  number-none z = picked s.digits false run (ap (λ (k : ℕ). ltb 0 k && leb k most) z)
+  pub number_none : s.digits ≡ 0 → Not ≡ number_from most text p
+  number_none z = picked s.digits false run (ap (λ (k : ℕ). ltb 0 k && leb k most) z)
 
-  pub number-long : most < s.digits → Not ≡ numberFrom most text p
-  number-long h = let f : 0 < s.digits = omega arith in picked s.digits false run (rw (lt-ltb _ _ f, lt-leb _ _ h))
+  pub number_long : most < s.digits → Not ≡ number_from most text p
+  number_long h = let f : 0 < s.digits = omega arith in picked s.digits false run (rw (lt-ltb _ _ f, lt-leb _ _ h))
 
-  pub number_is : (s.digits ≡ 0 → ⊥) → s.digits ≤ most → Is s.value (p + s.digits) ≡ numberFrom most text p
+  pub number_is : (s.digits ≡ 0 → ⊥) → s.digits ≤ most → Is s.value (p + s.digits) ≡ number_from most text p
   number_is z h =
       let f : 0 < s.digits = omega arith in
       ap (λ (v : ℕ). Is v (p + s.digits)) (ap (λ (x : Scan). x.value) scanned ∙ ap (number_at 10 text p) (sym run))
@@ -42,8 +42,8 @@ within : (most p end k v : ℕ) (t : Bool) → (t ≡ true → k ≤ most) → e
 within most p end k v true h e = let g : k ≤ most = h refl in omega arith
 within most p end k v false h e = omega arith
 
-pub number-end : (most : ℕ) (text : List ℕ) (p value end : ℕ) → numberFrom most text p ≡ Is value end → end ≤ p + most
-unfolding numberFrom
-number-end most text p value end e =
-    let k = digitRun 10 (most + 1) text p in
+pub number_end : (most : ℕ) (text : List ℕ) (p value end : ℕ) → number_from most text p ≡ Is value end → end ≤ p + most
+unfolding number_from
+number_end most text p value end e =
+    let k = digit_run 10 (most + 1) text p in
     within most p end k (number_at 10 text p k) (ltb 0 k && leb k most) (λ t. leb-true k most (both_true (ltb 0 k) (leb k most) t).1) (ap end_of e)

@@ -9,53 +9,53 @@ use lib.Dec.{ltb}
 use lib.Seq.{sets, length-take-le, take-suc, take_all}
 use borrow.Author.Tests.{ltb-true, ltb-false, lt-ltb, le-ltb}
 use lib.ListN.{length, length-set, set, take, drop, get_or, take-append-drop, drop_of_length-le}
-use Rattle.texts.specs.Page.{Page, page, withByte, written, Fitting}
+use Rattle.texts.specs.Page.{Page, page, with_byte, written, Fitting}
 
-pub written-append : (p : Page) (a b : List ℕ) → written (written p a) b ≡ written p (a ++ b)
+pub written_append : (p : Page) (a b : List ℕ) → written (written p a) b ≡ written p (a ++ b)
 unfolding written
-written-append p [] b = refl
-written-append p (x ∷ a) b = written-append (withByte p x) a b
+written_append p [] b = refl
+written_append p (x ∷ a) b = written_append (with_byte p x) a b
 
 module _ (p : Page) where
   -- after the text a, the text b more
   pub then : {q r : Page} (a b : List ℕ) → q ≡ written p a → r ≡ written q b → r ≡ written p (a ++ b)
-  then a b g h = h ∙ ap (λ (s : Page). written s b) g ∙ written-append p a b
+  then a b g h = h ∙ ap (λ (s : Page). written s b) g ∙ written_append p a b
 
   -- three parts
-  pub three-parts : {q r s : Page} (a b d : List ℕ) → q ≡ written p a → r ≡ written q b → s ≡ written r d → s ≡ written p (a ++ b ++ d)
-  three-parts a b d g h i = then (a ++ b) d (then a b g h) i
+  pub three_parts : {q r s : Page} (a b d : List ℕ) → q ≡ written p a → r ≡ written q b → s ≡ written r d → s ≡ written p (a ++ b ++ d)
+  three_parts a b d g h i = then (a ++ b) d (then a b g h) i
 
   -- a line of four parts
-  pub four-parts : {q r s t : Page} (a b d e : List ℕ) → q ≡ written p a → r ≡ written q b → s ≡ written r d → t ≡ written s e → t ≡ written p (a ++ b ++ d ++ e)
-  four-parts a b d e g h i j = then (a ++ b ++ d) e (three-parts a b d g h i) j
+  pub four_parts : {q r s t : Page} (a b d e : List ℕ) → q ≡ written p a → r ≡ written q b → s ≡ written r d → t ≡ written s e → t ≡ written p (a ++ b ++ d ++ e)
+  four_parts a b d e g h i j = then (a ++ b ++ d) e (three_parts a b d g h i) j
 
-pub written-length : (p : Page) (a : List ℕ) → length (written p a).bytes ≡ length p.bytes
+pub written_length : (p : Page) (a : List ℕ) → length (written p a).bytes ≡ length p.bytes
 unfolding written
-written-length p [] = refl
-written-length p (x ∷ a) = written-length (withByte p x) a ∙ by (ltb p.used (length p.bytes))
+written_length p [] = refl
+written_length p (x ∷ a) = written_length (with_byte p x) a ∙ by (ltb p.used (length p.bytes))
   where
     by : (b : Bool) → length (cond b (page (set p.bytes p.used x) (p.used + 1)) p).bytes ≡ length p.bytes
     by true = length-set p.bytes p.used x
     by false = refl
 
 -- what is written stays within the page
-pub written-within : (p : Page) (a : List ℕ) → p.used ≤ length p.bytes → (written p a).used ≤ length (written p a).bytes
+pub written_within : (p : Page) (a : List ℕ) → p.used ≤ length p.bytes → (written p a).used ≤ length (written p a).bytes
 unfolding written
-written-within p [] h = h
-written-within p (x ∷ a) h = written-within (withByte p x) a (by (ltb p.used (length p.bytes)) refl)
+written_within p [] h = h
+written_within p (x ∷ a) h = written_within (with_byte p x) a (by (ltb p.used (length p.bytes)) refl)
   where
     by : (b : Bool) → ltb p.used (length p.bytes) ≡ b → (cond b (page (set p.bytes p.used x) (p.used + 1)) p).used ≤ length (cond b (page (set p.bytes p.used x) (p.used + 1)) p).bytes
     by true e = let g : p.used < length p.bytes = ltb-true p.used (length p.bytes) e in simp length-set (omega arith)
     by false e = h
 
 -- a text that fits: its bytes in a row, and their count
-pub written-fits : (l : List ℕ) (at : ℕ) (a : List ℕ) → at + length a ≤ length l → written (page l at) a ≡ page (sets l at a) (at + length a)
+pub written_fits : (l : List ℕ) (at : ℕ) (a : List ℕ) → at + length a ≤ length l → written (page l at) a ≡ page (sets l at a) (at + length a)
 unfolding written
-written-fits l at [] h = ap (page l) (let e : at ≡ at + 0 = omega arith in e)
-written-fits l at (x ∷ a) h =
+written_fits l at [] h = ap (page l) (let e : at ≡ at + 0 = omega arith in e)
+written_fits l at (x ∷ a) h =
     let g : at < length l = omega arith in
     ap (λ (b : Bool). written (cond b (page (set l at x) (at + 1)) (page l at)) a) (lt-ltb at (length l) g)
-    ∙ written-fits (set l at x) (at + 1) a (simp length-set (omega arith))
+    ∙ written_fits (set l at x) (at + 1) a (simp length-set (omega arith))
     ∙ ap (λ (k : ℕ). page (sets (set l at x) k a) (k + length a)) (let e : at + 1 ≡ suc at = omega arith in e)
     ∙ ap (page (sets (set l at x) (suc at) a)) (let e : suc at + length a ≡ at + suc (length a) = omega arith in e)
 
@@ -66,7 +66,7 @@ counts l n h = (h, sym (length-take-le n l h))
 -- the count of what was written on a new page is one of its bytes
 pub counted : (l m : List ℕ) (r : ℕ) (a : List ℕ) → page m r ≡ written (page l 0) a → (r ≤ length m) × (r ≡ length (take r m))
 counted l m r a e =
-    counts m r (subst (λ (p : Page). p.used ≤ length p.bytes) (sym e) (written-within (page l 0) a (omega arith)))
+    counts m r (subst (λ (p : Page). p.used ≤ length p.bytes) (sym e) (written_within (page l 0) a (omega arith)))
 
 -- ---- a loop that writes one piece after the other
 -- what it keeps: i of n pieces are written, `upto i` so far
@@ -83,25 +83,25 @@ module _ (upto : ℕ → List ℕ) (n : ℕ) where
     pub pieces_more : (after : List ℕ) (r : ℕ) (piece : List ℕ) → page after r ≡ written (page out end) piece → i < n → upto i ++ piece ≡ upto (i + 1) → Pieces upto n p after r (i + 1)
     pieces_more after r piece e lt g = record { within = omega arith; put = then p (upto i) piece so_far.put e ∙ ap (written p) g }
 
-    pub pieces-length : length out ≡ length p.bytes
-    pieces-length = ap (λ (q : Page). length q.bytes) so_far.put ∙ written-length p (upto i)
+    pub pieces_length : length out ≡ length p.bytes
+    pieces_length = ap (λ (q : Page). length q.bytes) so_far.put ∙ written_length p (upto i)
 
-    pub pieces-all : (text : List ℕ) → n ≤ i → upto n ≡ text → page out end ≡ written p text
-    pieces-all text h g = so_far.put ∙ ap (λ (k : ℕ). written p (upto k)) (let w = so_far.within in let e : i ≡ n = omega arith in e) ∙ ap (written p) g
+    pub pieces_all : (text : List ℕ) → n ≤ i → upto n ≡ text → page out end ≡ written p text
+    pieces_all text h g = so_far.put ∙ ap (λ (k : ℕ). written p (upto k)) (let w = so_far.within in let e : i ≡ n = omega arith in e) ∙ ap (written p) g
 
 -- a text, byte after byte
 pub byte_more : (t : List ℕ) (i : ℕ) → i < length t → take i t ++ (get_or t i 0 ∷ []) ≡ take (i + 1) t
 byte_more t i h = sym (take-suc t i 0 h) ∙ ap (λ (k : ℕ). take k t) (sym (add-one i))
 
-pub text-all : (p : Page) (t out : List ℕ) (end i : ℕ) → Pieces (λ j. take j t) (length t) p out end i → length t ≤ i → page out end ≡ written p t
-text-all p t out end i f h = pieces-all (λ j. take j t) (length t) p out end i f t h (take_all (length t) t (omega arith))
+pub text_all : (p : Page) (t out : List ℕ) (end i : ℕ) → Pieces (λ j. take j t) (length t) p out end i → length t ≤ i → page out end ≡ written p t
+text_all p t out end i f h = pieces_all (λ j. take j t) (length t) p out end i f t h (take_all (length t) t (omega arith))
 
 -- ---- a text as far as it fits: one test for all of it
 -- a page that is full takes no more
-written-full : (l : List ℕ) (at : ℕ) (a : List ℕ) → length l ≤ at → written (page l at) a ≡ page l at
+written_full : (l : List ℕ) (at : ℕ) (a : List ℕ) → length l ≤ at → written (page l at) a ≡ page l at
 unfolding written
-written-full l at [] h = refl
-written-full l at (x ∷ a) h = ap (λ (b : Bool). written (cond b (page (set l at x) (at + 1)) (page l at)) a) (le-ltb at (length l) h) ∙ written-full l at a h
+written_full l at [] h = refl
+written_full l at (x ∷ a) h = ap (λ (b : Bool). written (cond b (page (set l at x) (at + 1)) (page l at)) a) (le-ltb at (length l) h) ∙ written_full l at a h
 
 -- a byte where there is room
 byte_put : (l : List ℕ) (at b : ℕ) → at < length l → page (set l at b) (at + 1) ≡ written (page l at) (b ∷ [])
@@ -115,13 +115,13 @@ pub record Copying (l : List ℕ) (at : ℕ) (t : List ℕ) (count : ℕ) (out :
   pub put : page out (at + i) ≡ written (page l at) (take i t)
 
 module _ (l : List ℕ) (at : ℕ) (t : List ℕ) (count : ℕ) (fits : Fitting (length l) at (length t) count) where
-  pub copying-none : Copying l at t count l 0
+  pub copying_none : Copying l at t count l 0
   unfolding written
-  copying-none = record { within = omega arith; size = refl; put = ap (page l) (let e : at + 0 ≡ at = omega arith in e) }
+  copying_none = record { within = omega arith; size = refl; put = ap (page l) (let e : at + 0 ≡ at = omega arith in e) }
 
   module _ (out : List ℕ) (i : ℕ) (so_far : Copying l at t count out i) where
-    pub copying-more : i < count → Copying l at t count (set out (at + i) (get_or t i 0)) (i + 1)
-    copying-more h = record {
+    pub copying_more : i < count → Copying l at t count (set out (at + i) (get_or t i 0)) (i + 1)
+    copying_more h = record {
       within = omega arith;
       size = length-set out (at + i) (get_or t i 0) ∙ so_far.size;
       put =
@@ -131,9 +131,9 @@ module _ (l : List ℕ) (at : ℕ) (t : List ℕ) (count : ℕ) (fits : Fitting 
     }
 
     -- what fits is all, or the page is full
-    pub copying-all : count ≤ i → page out (at + count) ≡ written (page l at) t
+    pub copying_all : count ≤ i → page out (at + count) ≡ written (page l at) t
     unfolding written
-    copying-all h =
+    copying_all h =
         then (page l at) (take count t) (drop count t) put (sym (rest (ltb count (length t)) refl))
         ∙ ap (written (page l at)) (take-append-drop count t)
       where
@@ -141,5 +141,5 @@ module _ (l : List ℕ) (at : ℕ) (t : List ℕ) (count : ℕ) (fits : Fitting 
         put = subst (λ (k : ℕ). page out (at + k) ≡ written (page l at) (take k t)) (let e : i ≡ count = omega arith in e) so_far.put
 
         rest : (b : Bool) → ltb count (length t) ≡ b → written (page out (at + count)) (drop count t) ≡ page out (at + count)
-        rest true e = let full = fits.full (ltb-true count (length t) e) in written-full out (at + count) (drop count t) (omega arith)
+        rest true e = let full = fits.full (ltb-true count (length t) e) in written_full out (at + count) (drop count t) (omega arith)
         rest false e = ap (written (page out (at + count))) (drop_of_length-le t (ltb-false count (length t) e))

@@ -10,10 +10,10 @@ use lib.ListN.{length, length-set, length-drop, set, take, drop, drop_of_length-
 use lib.Seq.{append_snoc, set_split, drop_at, length-take-le, take_all}
 use borrow.Author.Tests.{lt-ltb, le-ltb}
 use Rattle.io.specs.Digits.{hex_digit_ascii, last_digits}
-use Rattle.texts.specs.Bytes.{digitZero}
+use Rattle.texts.specs.Bytes.{digit_zero}
 use Rattle.texts.specs.Page.{Page, written}
-use Rattle.texts.specs.Numbers.{places, decimalText, Spelled}
-use Rattle.texts.proofs.DigitsBack.{low-glyph}
+use Rattle.texts.specs.Numbers.{places, decimal_text, Spelled}
+use Rattle.texts.proofs.DigitsBack.{low_glyph}
 
 -- the digits of a number below 10, and those of a larger one by its last
 one_place : (d m : ℕ) → m < 10 → places d m ≡ 1
@@ -21,25 +21,25 @@ unfolding places
 one_place zero m h = refl
 one_place (suc d) m h = rw (lt-ltb m 10 h)
 
-one-digit : (d m : ℕ) → m < 10 → last_digits 10 (places d m) m ≡ (digitZero + m) ∷ []
-one-digit d m h =
+one_digit : (d m : ℕ) → m < 10 → last_digits 10 (places d m) m ≡ (digit_zero + m) ∷ []
+one_digit d m h =
     ap (λ (k : ℕ). last_digits 10 k m) (one_place d m h)
     ∙ ap (λ (x : ℕ). hex_digit_ascii x ∷ []) (let e : m % 10 ≡ m = omega arith in e)
-    ∙ ap (λ (b : ℕ). b ∷ []) (low-glyph m h)
+    ∙ ap (λ (b : ℕ). b ∷ []) (low_glyph m h)
 
-last-digit : (d m : ℕ) → 9 < m → last_digits 10 (places (suc d) m) m ≡ last_digits 10 (places d (m / 10)) (m / 10) ++ ((digitZero + m % 10) ∷ [])
+last_digit : (d m : ℕ) → 9 < m → last_digits 10 (places (suc d) m) m ≡ last_digits 10 (places d (m / 10)) (m / 10) ++ ((digit_zero + m % 10) ∷ [])
 unfolding places
-last-digit d m h =
+last_digit d m h =
     rw (le-ltb m 10 h)
-    (ap (λ (b : ℕ). last_digits 10 (places d (m / 10)) (m / 10) ++ (b ∷ [])) (low-glyph (m % 10) (omega arith)))
+    (ap (λ (b : ℕ). last_digits 10 (places d (m / 10)) (m / 10) ++ (b ∷ [])) (low_glyph (m % 10) (omega arith)))
 
 -- without its last digit a number has one fewer
 one_fewer : (k m : ℕ) → m < 10 ^ suc k → m / 10 < 10 ^ k
 one_fewer k m h = (div-lt_iff_lt-mul (lit< tt)).1 (subst (λ (x : ℕ). m < x) (pow-suc 10 k) h)
 
 -- what stands from i on after a store at i
-drop-stored : (l : List ℕ) (i b : ℕ) → i < length l → drop i (set l i b) ≡ b ∷ drop (i + 1) l
-drop-stored l i b h =
+drop_stored : (l : List ℕ) (i b : ℕ) → i < length l → drop i (set l i b) ≡ b ∷ drop (i + 1) l
+drop_stored l i b h =
     ap (drop i) (set_split l i b h)
     ∙ drop_at (take i l) (b ∷ drop (suc i) l) i (length-take-le i l (omega arith))
     ∙ ap (λ (k : ℕ). b ∷ drop k l) (sym (add-one i))
@@ -49,11 +49,11 @@ pub record Spelling (n : ℕ) (l : List ℕ) (start rest : ℕ) : Type 0 where
   pub size : length l ≡ 20
   pub within : start < 20
   pub small : rest < 10 ^ (start + 1)
-  pub text : last_digits 10 (places start rest) rest ++ drop (start + 1) l ≡ decimalText n
+  pub text : last_digits 10 (places start rest) rest ++ drop (start + 1) l ≡ decimal_text n
 
-pub spelling-none : (n : ℕ) (l : List ℕ) → n < 2 ^ 64 → length l ≡ 20 → Spelling n l 19 n
-unfolding decimalText
-spelling-none n l h e = record {
+pub spelling_none : (n : ℕ) (l : List ℕ) → n < 2 ^ 64 → length l ≡ 20 → Spelling n l 19 n
+unfolding decimal_text
+spelling_none n l h e = record {
   size = e;
   within = lit< tt;
   small = lt_of_lt_of_le h (lit≤ tt);
@@ -62,13 +62,13 @@ spelling-none n l h e = record {
 
 module _ (n : ℕ) (l : List ℕ) where
   -- a number of more than one digit has room for the next
-  pub spelling-room : (start rest : ℕ) → Spelling n l start rest → 9 < rest → 1 ≤ start
-  spelling-room zero rest s h = let g : rest < 10 = s.small in absurd (omega arith)
-  spelling-room (suc d) rest s h = omega arith
+  pub spelling_room : (start rest : ℕ) → Spelling n l start rest → 9 < rest → 1 ≤ start
+  spelling_room zero rest s h = let g : rest < 10 = s.small in absurd (omega arith)
+  spelling_room (suc d) rest s h = omega arith
 
-  more : (d rest : ℕ) → Spelling n l (suc d) rest → 9 < rest → Spelling n (set l (suc d) (digitZero + rest % 10)) d (rest / 10)
+  more : (d rest : ℕ) → Spelling n l (suc d) rest → 9 < rest → Spelling n (set l (suc d) (digit_zero + rest % 10)) d (rest / 10)
   more d rest s h =
-      let b = digitZero + rest % 10 in
+      let b = digit_zero + rest % 10 in
       let front = last_digits 10 (places d (rest / 10)) (rest / 10) in
       record {
         size = length-set l (suc d) b ∙ s.size;
@@ -76,27 +76,27 @@ module _ (n : ℕ) (l : List ℕ) where
         small = one_fewer (d + 1) rest (subst (λ (k : ℕ). rest < 10 ^ k) (let e : suc d + 1 ≡ suc (d + 1) = omega arith in e) s.small);
         text =
             ap (λ (k : ℕ). front ++ drop k (set l (suc d) b)) (add-one d)
-            ∙ ap (λ (t : List ℕ). front ++ t) (drop-stored l (suc d) b (omega arith))
+            ∙ ap (λ (t : List ℕ). front ++ t) (drop_stored l (suc d) b (omega arith))
             ∙ sym (append_snoc front b (drop (suc d + 1) l))
-            ∙ ap (λ (t : List ℕ). t ++ drop (suc d + 1) l) (sym (last-digit d rest h))
+            ∙ ap (λ (t : List ℕ). t ++ drop (suc d + 1) l) (sym (last_digit d rest h))
             ∙ s.text;
       }
 
-  pub spelling-more : (start rest : ℕ) → Spelling n l start rest → 9 < rest → Spelling n (set l start (digitZero + rest % 10)) (start - 1) (rest / 10)
-  spelling-more zero rest s h = let g : rest < 10 = s.small in absurd (omega arith)
-  spelling-more (suc d) rest s h = subst (λ (k : ℕ). Spelling n (set l (suc d) (digitZero + rest % 10)) k (rest / 10)) (let e : d ≡ suc d - 1 = omega arith in e) (more d rest s h)
+  pub spelling_more : (start rest : ℕ) → Spelling n l start rest → 9 < rest → Spelling n (set l start (digit_zero + rest % 10)) (start - 1) (rest / 10)
+  spelling_more zero rest s h = let g : rest < 10 = s.small in absurd (omega arith)
+  spelling_more (suc d) rest s h = subst (λ (k : ℕ). Spelling n (set l (suc d) (digit_zero + rest % 10)) k (rest / 10)) (let e : d ≡ suc d - 1 = omega arith in e) (more d rest s h)
 
   -- the first digit ends them
-  pub spelling-ends : (start rest : ℕ) → Spelling n l start rest → rest ≤ 9 → Spelled n (set l start (digitZero + rest)) start
-  spelling-ends start rest s h = record {
-    size = length-set l start (digitZero + rest) ∙ s.size;
+  pub spelling_ends : (start rest : ℕ) → Spelling n l start rest → rest ≤ 9 → Spelled n (set l start (digit_zero + rest)) start
+  spelling_ends start rest s h = record {
+    size = length-set l start (digit_zero + rest) ∙ s.size;
     inside = s.within;
     text =
-        drop-stored l start (digitZero + rest) (omega arith)
-        ∙ ap (λ (t : List ℕ). t ++ drop (start + 1) l) (sym (one-digit start rest (omega arith)))
+        drop_stored l start (digit_zero + rest) (omega arith)
+        ∙ ap (λ (t : List ℕ). t ++ drop (start + 1) l) (sym (one_digit start rest (omega arith)))
         ∙ s.text;
   }
 
 -- ---- written: the bytes from start on, as a part of the array
-pub spelled-written : (p q : Page) (l : List ℕ) (n start : ℕ) → q ≡ written p (take (20 - start) (drop start l)) → Spelled n l start → q ≡ written p (decimalText n)
-spelled-written p q l n start e s = e ∙ ap (written p) (take_all (20 - start) (drop start l) (simp length-drop (omega arith)) ∙ s.text)
+pub spelled_written : (p q : Page) (l : List ℕ) (n start : ℕ) → q ≡ written p (take (20 - start) (drop start l)) → Spelled n l start → q ≡ written p (decimal_text n)
+spelled_written p q l n start e s = e ∙ ap (written p) (take_all (20 - start) (drop start l) (simp length-drop (omega arith)) ∙ s.text)

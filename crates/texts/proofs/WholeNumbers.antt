@@ -10,45 +10,45 @@ use lib.Seq.{drop-cons, drop-drop, get_or-drop}
 use borrow.Author.Count.{below_more}
 use borrow.Author.Tests.{leb-true, leb-false, lt-ltb, le-ltb, ltb-true, ltb-false, eq-eqb, ne_eqb, eqb-true}
 use Rattle.texts.specs.declared.Scan.{Scan}
-use Rattle.texts.specs.Digits.{byte_at, isDigit, digitValue, number_at}
+use Rattle.texts.specs.Digits.{byte_at, is_digit, digit_value, number_at}
 use Rattle.texts.specs.Whole.{worth, past, last_of, Capped, Grown, Found, DigitsAt}
 use Rattle.texts.proofs.Digits.{past_end}
 
 -- ---- what is left of a text from i on, by its first byte
 module _ (text : List ℕ) (i : ℕ) where
-  pub worth-digit : (v : ℕ) → i < length text → isDigit 10 (byte_at text i) ≡ true → worth v (drop i text) ≡ worth (v * 10 + digitValue (byte_at text i)) (drop (suc i) text)
+  pub worth_digit : (v : ℕ) → i < length text → is_digit 10 (byte_at text i) ≡ true → worth v (drop i text) ≡ worth (v * 10 + digit_value (byte_at text i)) (drop (suc i) text)
   unfolding worth
-  worth-digit v h e = rw (drop-cons text i 0 h, e)
+  worth_digit v h e = rw (drop-cons text i 0 h, e)
 
-  pub worth-other : (v : ℕ) → i < length text → isDigit 10 (byte_at text i) ≡ false → worth v (drop i text) ≡ v
+  pub worth_other : (v : ℕ) → i < length text → is_digit 10 (byte_at text i) ≡ false → worth v (drop i text) ≡ v
   unfolding worth
-  worth-other v h e = rw (drop-cons text i 0 h, e)
+  worth_other v h e = rw (drop-cons text i 0 h, e)
 
-  pub worth-end : (v : ℕ) → length text ≤ i → worth v (drop i text) ≡ v
+  pub worth_end : (v : ℕ) → length text ≤ i → worth v (drop i text) ≡ v
   unfolding worth
-  worth-end v h = rw (drop_of_length-le text h)
+  worth_end v h = rw (drop_of_length-le text h)
 
-  pub past-digit : i < length text → isDigit 10 (byte_at text i) ≡ true → past (drop i text) ≡ past (drop (suc i) text)
+  pub past_digit : i < length text → is_digit 10 (byte_at text i) ≡ true → past (drop i text) ≡ past (drop (suc i) text)
   unfolding past
-  past-digit h e = rw (drop-cons text i 0 h, e)
+  past_digit h e = rw (drop-cons text i 0 h, e)
 
-  pub past-other : i < length text → isDigit 10 (byte_at text i) ≡ false → past (drop i text) ≡ drop i text
+  pub past_other : i < length text → is_digit 10 (byte_at text i) ≡ false → past (drop i text) ≡ drop i text
   unfolding past
-  past-other h e = ap past (drop-cons text i 0 h) ∙ ap (λ (t : Bool). cond t (past (drop (suc i) text)) (byte_at text i ∷ drop (suc i) text)) e ∙ sym (drop-cons text i 0 h)
+  past_other h e = ap past (drop-cons text i 0 h) ∙ ap (λ (t : Bool). cond t (past (drop (suc i) text)) (byte_at text i ∷ drop (suc i) text)) e ∙ sym (drop-cons text i 0 h)
 
-  pub past-none : length text ≤ i → past (drop i text) ≡ drop i text
+  pub past_none : length text ≤ i → past (drop i text) ≡ drop i text
   unfolding past
-  past-none h = rw (drop_of_length-le text h)
+  past_none h = rw (drop_of_length-le text h)
 
 -- ---- a number with a digit more, as far as it is kept
-pub grown-more : (most v digit : ℕ) → v ≤ most → digit < 10 → Grown most v digit (v * 10 + digit)
-grown-more most v digit h g = record { small = omega arith; more = λ l. refl; stays = λ l. absurd (omega arith) }
+pub grown_more : (most v digit : ℕ) → v ≤ most → digit < 10 → Grown most v digit (v * 10 + digit)
+grown_more most v digit h g = record { small = omega arith; more = λ l. refl; stays = λ l. absurd (omega arith) }
 
-pub grown-stays : (most v digit : ℕ) → v ≤ most * 10 + 9 → most < v → Grown most v digit v
-grown-stays most v digit s h = record { small = s; more = λ l. absurd (omega arith); stays = λ l. refl }
+pub grown_stays : (most v digit : ℕ) → v ≤ most * 10 + 9 → most < v → Grown most v digit v
+grown_stays most v digit s h = record { small = s; more = λ l. absurd (omega arith); stays = λ l. refl }
 
-capped-more : (most v w d r : ℕ) → Capped most v w → Grown most v d r → Capped most r (w * 10 + d)
-capped-more most v w d r c g = by (leb v most) refl
+capped_more : (most v w d r : ℕ) → Capped most v w → Grown most v d r → Capped most r (w * 10 + d)
+capped_more most v w d r c g = by (leb v most) refl
   where
     by : (t : Bool) → leb v most ≡ t → Capped most r (w * 10 + d)
     by true e =
@@ -71,9 +71,9 @@ pub record Scanning (most : ℕ) (text : List ℕ) (p v k : ℕ) : Type 0 where
   pub digits : DigitsAt text p k
 
 module _ (most : ℕ) (text : List ℕ) (p : ℕ) where
-  pub scanning-none : p ≤ length text → Scanning most text p 0 0
+  pub scanning_none : p ≤ length text → Scanning most text p 0 0
   unfolding number_at
-  scanning-none h =
+  scanning_none h =
       let here : p ≡ p + 0 = omega arith in record {
         small = omega arith;
         value = record { same = λ l. refl; above = λ l. absurd (omega arith) };
@@ -83,21 +83,21 @@ module _ (most : ℕ) (text : List ℕ) (p : ℕ) where
       }
 
   module _ (v k : ℕ) (s : Scanning most text p v k) where
-    pub scanning-more : (d r : ℕ) → k < length text - p → d ≡ digitValue (byte_at text (p + k)) → d < 10 → Grown most v d r → Scanning most text p r (k + 1)
+    pub scanning_more : (d r : ℕ) → k < length text - p → d ≡ digit_value (byte_at text (p + k)) → d < 10 → Grown most v d r → Scanning most text p r (k + 1)
     unfolding number_at
-    scanning-more d r h e small g =
+    scanning_more d r h e small g =
         let inside : p + k < length text = omega arith in
-        let digit : isDigit 10 (byte_at text (p + k)) ≡ true = lt-ltb (digitValue (byte_at text (p + k))) 10 (omega arith) in
-        let more : number_at 10 text p k * 10 + digitValue (byte_at text (p + k)) ≡ number_at 10 text p (k + 1) = ap (number_at 10 text p) (let z : suc k ≡ k + 1 = omega arith in z) in
+        let digit : is_digit 10 (byte_at text (p + k)) ≡ true = lt-ltb (digit_value (byte_at text (p + k))) 10 (omega arith) in
+        let more : number_at 10 text p k * 10 + digit_value (byte_at text (p + k)) ≡ number_at 10 text p (k + 1) = ap (number_at 10 text p) (let z : suc k ≡ k + 1 = omega arith in z) in
         let one : suc (p + k) ≡ p + (k + 1) = omega arith in record {
           small = g.small;
-          value = subst (Capped most r) (ap (λ (x : ℕ). number_at 10 text p k * 10 + x) e ∙ more) (capped-more most v (number_at 10 text p k) d r s.value g);
+          value = subst (Capped most r) (ap (λ (x : ℕ). number_at 10 text p k * 10 + x) e ∙ more) (capped_more most v (number_at 10 text p k) d r s.value g);
           worths =
-              s.worths ∙ worth-digit text (p + k) (number_at 10 text p k) inside digit
+              s.worths ∙ worth_digit text (p + k) (number_at 10 text p k) inside digit
               ∙ ap (λ (x : ℕ). worth x (drop (suc (p + k)) text)) more
               ∙ ap (λ (i : ℕ). worth (number_at 10 text p (k + 1)) (drop i text)) one;
-          rest = s.rest ∙ past-digit text (p + k) inside digit ∙ ap (λ (i : ℕ). past (drop i text)) one;
-          digits = record { inside = omega arith; all = below_more (λ j. isDigit 10 (byte_at text (p + j)) ≡ true) k s.digits.all digit };
+          rest = s.rest ∙ past_digit text (p + k) inside digit ∙ ap (λ (i : ℕ). past (drop i text)) one;
+          digits = record { inside = omega arith; all = below_more (λ j. is_digit 10 (byte_at text (p + j)) ≡ true) k s.digits.all digit };
         }
 
     found : worth (number_at 10 text p k) (drop (p + k) text) ≡ number_at 10 text p k → past (drop (p + k) text) ≡ drop (p + k) text → Found most text p (record { value = v; digits = k })
@@ -109,14 +109,14 @@ module _ (most : ℕ) (text : List ℕ) (p : ℕ) where
     }
 
     -- a byte that is no digit ends them, and so does the end of the text
-    pub scanning-stops : (d : ℕ) → k < length text - p → d ≡ digitValue (byte_at text (p + k)) → 10 ≤ d → Found most text p (record { value = v; digits = k })
-    scanning-stops d h e large =
+    pub scanning_stops : (d : ℕ) → k < length text - p → d ≡ digit_value (byte_at text (p + k)) → 10 ≤ d → Found most text p (record { value = v; digits = k })
+    scanning_stops d h e large =
         let inside : p + k < length text = omega arith in
-        let other : isDigit 10 (byte_at text (p + k)) ≡ false = le-ltb (digitValue (byte_at text (p + k))) 10 (omega arith) in
-        found (worth-other text (p + k) (number_at 10 text p k) inside other) (past-other text (p + k) inside other)
+        let other : is_digit 10 (byte_at text (p + k)) ≡ false = le-ltb (digit_value (byte_at text (p + k))) 10 (omega arith) in
+        found (worth_other text (p + k) (number_at 10 text p k) inside other) (past_other text (p + k) inside other)
 
-    pub scanning-ends : length text - p ≤ k → Found most text p (record { value = v; digits = k })
-    scanning-ends h = let g : length text ≤ p + k = omega arith in found (worth-end text (p + k) (number_at 10 text p k) g) (past-none text (p + k) g)
+    pub scanning_ends : length text - p ≤ k → Found most text p (record { value = v; digits = k })
+    scanning_ends h = let g : length text ≤ p + k = omega arith in found (worth_end text (p + k) (number_at 10 text p k) g) (past_none text (p + k) g)
 
 -- ---- two numbers, compared from their ends
 ends : (x y d e : ℕ) → d < 10 → e < 10 → (d ≡ e → ⊥) → x * 10 + d ≡ y * 10 + e → ⊥
@@ -130,14 +130,14 @@ ends_same x y d e q = by (eqb x y) refl
     by false k = ne_eqb (x * 10 + d) (y * 10 + e) (λ m. let z : x ≡ y = omega arith in true≢false (sym (eq-eqb x y z) ∙ k))
 
 module _ (text : List ℕ) (p : ℕ) where
-  last-small : (k : ℕ) → DigitsAt text p k → last_of text p k < 10
-  last-small zero d = omega arith
-  last-small (suc k) d = ltb-true (digitValue (byte_at text (p + k))) 10 (d.all k (omega arith))
+  last_small : (k : ℕ) → DigitsAt text p k → last_of text p k < 10
+  last_small zero d = omega arith
+  last_small (suc k) d = ltb-true (digit_value (byte_at text (p + k))) 10 (d.all k (omega arith))
 
   by_last : (k : ℕ) → number_at 10 text p k ≡ number_at 10 text p (k - 1) * 10 + last_of text p k
   unfolding number_at
   by_last zero = refl
-  by_last (suc k) = ap (λ (m : ℕ). number_at 10 text p m * 10 + digitValue (byte_at text (p + k))) (let z : k ≡ suc k - 1 = omega arith in z)
+  by_last (suc k) = ap (λ (m : ℕ). number_at 10 text p m * 10 + digit_value (byte_at text (p + k))) (let z : k ≡ suc k - 1 = omega arith in z)
 
   fewer_digits : (k m : ℕ) → DigitsAt text p k → m ≤ k → DigitsAt text p m
   fewer_digits k m d h = let i = d.inside in record { inside = omega arith; all = λ j lt. d.all j (omega arith) }
@@ -145,9 +145,9 @@ module _ (text : List ℕ) (p : ℕ) where
   pub last_none : (k : ℕ) → k ≡ 0 → 0 ≡ last_of text p k
   last_none k e = ap (last_of text p) (sym e)
 
-  pub last_some : (k r : ℕ) → (k ≡ 0 → ⊥) → r ≡ digitValue (byte_at text (p + (k - 1))) → r ≡ last_of text p k
+  pub last_some : (k r : ℕ) → (k ≡ 0 → ⊥) → r ≡ digit_value (byte_at text (p + (k - 1))) → r ≡ last_of text p k
   last_some zero r n e = absurd (n refl)
-  last_some (suc k) r n e = e ∙ ap (λ (m : ℕ). digitValue (byte_at text (p + m))) (let z : suc k - 1 ≡ k = omega arith in z)
+  last_some (suc k) r n e = e ∙ ap (λ (m : ℕ). digit_value (byte_at text (p + m))) (let z : suc k - 1 ≡ k = omega arith in z)
 
 -- what the loop keeps: i and j digits are left, and whether they spell one number is whether all do
 pub record Comparing (text : List ℕ) (p k q l i j : ℕ) : Type 0 where
@@ -156,18 +156,18 @@ pub record Comparing (text : List ℕ) (p k q l i j : ℕ) : Type 0 where
   pub answer : eqb (number_at 10 text p k) (number_at 10 text q l) ≡ eqb (number_at 10 text p i) (number_at 10 text q j)
 
 module _ (text : List ℕ) (p k q l : ℕ) where
-  pub comparing-all : DigitsAt text p k → DigitsAt text q l → Comparing text p k q l k l
-  comparing-all a b = record { left = a; right = b; answer = refl }
+  pub comparing_all : DigitsAt text p k → DigitsAt text q l → Comparing text p k q l k l
+  comparing_all a b = record { left = a; right = b; answer = refl }
 
   module _ (i j x y : ℕ) (h : Comparing text p k q l i j) (at_left : x ≡ last_of text p i) (at_right : y ≡ last_of text q j) where
-    pub comparing-stops : (x ≡ y → ⊥) → false ≡ eqb (number_at 10 text p k) (number_at 10 text q l)
-    comparing-stops n =
+    pub comparing_stops : (x ≡ y → ⊥) → false ≡ eqb (number_at 10 text p k) (number_at 10 text q l)
+    comparing_stops n =
         sym (h.answer
         ∙ ne_eqb (number_at 10 text p i) (number_at 10 text q j)
-        (λ e. ends (number_at 10 text p (i - 1)) (number_at 10 text q (j - 1)) (last_of text p i) (last_of text q j) (last-small text p i h.left) (last-small text q j h.right) (λ z. n (at_left ∙ z ∙ sym at_right)) (sym (by_last text p i) ∙ e ∙ by_last text q j)))
+        (λ e. ends (number_at 10 text p (i - 1)) (number_at 10 text q (j - 1)) (last_of text p i) (last_of text q j) (last_small text p i h.left) (last_small text q j h.right) (λ z. n (at_left ∙ z ∙ sym at_right)) (sym (by_last text p i) ∙ e ∙ by_last text q j)))
 
-    pub comparing-less : (a b : ℕ) → x ≡ y → a ≡ i - 1 → b ≡ j - 1 → Comparing text p k q l a b
-    comparing-less a b e f g = record {
+    pub comparing_less : (a b : ℕ) → x ≡ y → a ≡ i - 1 → b ≡ j - 1 → Comparing text p k q l a b
+    comparing_less a b e f g = record {
       left = fewer_digits text p i a h.left (omega arith);
       right = fewer_digits text q j b h.right (omega arith);
       answer =
@@ -177,37 +177,37 @@ module _ (text : List ℕ) (p k q l : ℕ) where
           ∙ (λ z. eqb (number_at 10 text p (sym f z)) (number_at 10 text q (sym g z)));
     }
 
-  pub comparing-done : (i j : ℕ) → Comparing text p k q l i j → i + j ≤ 0 → true ≡ eqb (number_at 10 text p k) (number_at 10 text q l)
+  pub comparing_done : (i j : ℕ) → Comparing text p k q l i j → i + j ≤ 0 → true ≡ eqb (number_at 10 text p k) (number_at 10 text q l)
   unfolding number_at
-  comparing-done i j h e =
+  comparing_done i j h e =
       let a : i ≡ 0 = omega arith in
       let b : j ≡ 0 = omega arith in
       sym (h.answer ∙ (λ z. eqb (number_at 10 text p (a z)) (number_at 10 text q (b z))))
 
 -- ---- what was found, beside the text that is left
-past-short : (l : List ℕ) → length (past l) ≤ length l
+past_short : (l : List ℕ) → length (past l) ≤ length l
 unfolding past
-past-short [] = omega arith
-past-short (b ∷ l) = by (isDigit 10 b) (past-short l)
+past_short [] = omega arith
+past_short (b ∷ l) = by (is_digit 10 b) (past_short l)
   where
     by : (t : Bool) → length (past l) ≤ length l → length (cond t (past l) (b ∷ l)) ≤ suc (length l)
     by true h = omega arith
     by false h = omega arith
 
-no-digits : (l : List ℕ) → past l ≡ l → isDigit 10 (byte_at l 0) ≡ false
-unfolding past digitValue
-no-digits [] e = refl
-no-digits (b ∷ l) e = by (isDigit 10 b) refl
+no_digits : (l : List ℕ) → past l ≡ l → is_digit 10 (byte_at l 0) ≡ false
+unfolding past digit_value
+no_digits [] e = refl
+no_digits (b ∷ l) e = by (is_digit 10 b) refl
   where
-    by : (t : Bool) → isDigit 10 b ≡ t → isDigit 10 b ≡ false
+    by : (t : Bool) → is_digit 10 b ≡ t → is_digit 10 b ≡ false
     by false h = h
     by true h =
         let q : past l ≡ b ∷ l = ap (λ (t : Bool). cond t (past l) (b ∷ l)) (sym h) ∙ e in
         let k : length (past l) ≡ suc (length l) = ap length q in
-        absurd (omega (arith, past-short l))
+        absurd (omega (arith, past_short l))
 
-pub first-at : (text : List ℕ) (p : ℕ) → byte_at (drop p text) 0 ≡ byte_at text p
-first-at text p = get_or-drop p text 0 0 ∙ ap (byte_at text) (let z : p + 0 ≡ p = omega arith in z)
+pub first_at : (text : List ℕ) (p : ℕ) → byte_at (drop p text) 0 ≡ byte_at text p
+first_at text p = get_or-drop p text 0 0 ∙ ap (byte_at text) (let z : p + 0 ≡ p = omega arith in z)
 
 -- a byte that is not 0 stands inside the text
 pub byte_inside : (text : List ℕ) (p b : ℕ) → b ≡ byte_at text p → 0 < b → p < length text
@@ -218,18 +218,18 @@ byte_inside text p b e h = by (ltb p (length text)) refl
     by false g = absurd (let z : 0 ≡ byte_at text p = past_end text p (ltb-false p (length text) g) in omega arith)
 
 module _ (most : ℕ) (text : List ℕ) (p : ℕ) (s : Scan) (found_Here : Found most text p s) where
-  pub found_none : s.digits ≡ 0 → isDigit 10 (byte_at (drop p text) 0) ≡ false
-  found_none e = no-digits (drop p text) (sym found_Here.rest ∙ ap (λ (i : ℕ). drop i text) (let z : p + s.digits ≡ p = omega arith in z))
+  pub found_none : s.digits ≡ 0 → is_digit 10 (byte_at (drop p text) 0) ≡ false
+  found_none e = no_digits (drop p text) (sym found_Here.rest ∙ ap (λ (i : ℕ). drop i text) (let z : p + s.digits ≡ p = omega arith in z))
 
-  pub found_some : (s.digits ≡ 0 → ⊥) → isDigit 10 (byte_at (drop p text) 0) ≡ true
-  found_some n = ap (isDigit 10) (first-at text p ∙ ap (byte_at text) (let z : p ≡ p + 0 = omega arith in z)) ∙ found_Here.digits.all 0 (positive s.digits n)
+  pub found_some : (s.digits ≡ 0 → ⊥) → is_digit 10 (byte_at (drop p text) 0) ≡ true
+  found_some n = ap (is_digit 10) (first_at text p ∙ ap (byte_at text) (let z : p ≡ p + 0 = omega arith in z)) ∙ found_Here.digits.all 0 (positive s.digits n)
     where
       positive : (k : ℕ) → (k ≡ 0 → ⊥) → 0 < k
       positive zero n = absurd (n refl)
       positive (suc k) n = omega arith
 
-  pub found-next : byte_at (past (drop p text)) 0 ≡ byte_at text (p + s.digits)
-  found-next = ap (λ (l : List ℕ). byte_at l 0) (sym found_Here.rest) ∙ first-at text (p + s.digits)
+  pub found_next : byte_at (past (drop p text)) 0 ≡ byte_at text (p + s.digits)
+  found_next = ap (λ (l : List ℕ). byte_at l 0) (sym found_Here.rest) ∙ first_at text (p + s.digits)
 
   pub found_after : drop 1 (past (drop p text)) ≡ drop (p + s.digits + 1) text
   found_after = ap (drop 1) (sym found_Here.rest) ∙ drop-drop 1 (p + s.digits) text

@@ -14,15 +14,15 @@ abbrev pub minus : ℕ
 minus = 45
 
 -- the digits 0 to 9 stand in a row
-abbrev pub digitZero : ℕ
-digitZero = 48
+abbrev pub digit_zero : ℕ
+digit_zero = 48
 
-abbrev pub digitNine : ℕ
-digitNine = 57
+abbrev pub digit_nine : ℕ
+digit_nine = 57
 
 -- and so do the letters that are hex digits, a to f
-abbrev pub letterA : ℕ
-letterA = 97
+abbrev pub letter_a : ℕ
+letter_a = 97
 
-abbrev pub letterF : ℕ
-letterF = 102
+abbrev pub letter_f : ℕ
+letter_f = 102

@@ -1,7 +1,7 @@
 -- Bytes and digits at a place of a text. Definitions only.
 use Rattle.std.specs.Prelude.{ℕ, zero, suc, ◌+◌, ◌-◌, ◌*◌, Bool, true, cond, not, ◌&&◌, List, leb, ltb, eqb, length, get_or}
 use Rattle.texts.specs.declared.Scan.{Scan}
-use Rattle.texts.specs.Bytes.{newline, digitZero, digitNine, letterA, letterF}
+use Rattle.texts.specs.Bytes.{newline, digit_zero, digit_nine, letter_a, letter_f}
 
 -- the byte at p; 0 past the end
 abbrev pub byte_at : List ℕ → ℕ → ℕ
@@ -17,27 +17,27 @@ unfoldable pub starts_with : List ℕ → List ℕ → Bool
 starts_with word text = every (λ i. eqb (byte_at text i) (byte_at word i)) (length word)
 
 -- no byte of the text is a newline
-unfoldable pub noNewline : List ℕ → Bool
-noNewline text = every (λ i. not (eqb (byte_at text i) newline)) (length text)
+unfoldable pub no_newline : List ℕ → Bool
+no_newline text = every (λ i. not (eqb (byte_at text i) newline)) (length text)
 
 -- the value of a digit, 0 to 9 or a to f; 16 for any other byte
-unfoldable pub digitValue : ℕ → ℕ
-digitValue b = cond (leb digitZero b && leb b digitNine) (b - digitZero) (cond (leb letterA b && leb b letterF) (b - letterA + 10) 16)
+unfoldable pub digit_value : ℕ → ℕ
+digit_value b = cond (leb digit_zero b && leb b digit_nine) (b - digit_zero) (cond (leb letter_a b && leb b letter_f) (b - letter_a + 10) 16)
 
 -- b is a digit of the base, which is at most 16
-abbrev pub isDigit : ℕ → ℕ → Bool
-isDigit base b = ltb (digitValue b) base
+abbrev pub is_digit : ℕ → ℕ → Bool
+is_digit base b = ltb (digit_value b) base
 
 -- how many of the d bytes from p on are digits, up to the first that is none
-unfoldable pub digitRun : ℕ → ℕ → List ℕ → ℕ → ℕ
-digitRun base zero text p = 0
-digitRun base (suc d) text p = cond (isDigit base (byte_at text p)) (suc (digitRun base d text (p + 1))) 0
+unfoldable pub digit_run : ℕ → ℕ → List ℕ → ℕ → ℕ
+digit_run base zero text p = 0
+digit_run base (suc d) text p = cond (is_digit base (byte_at text p)) (suc (digit_run base d text (p + 1))) 0
 
 -- the number that the k digits from p on spell
 unfoldable pub number_at : ℕ → List ℕ → ℕ → ℕ → ℕ
 number_at base text p zero = 0
-number_at base text p (suc k) = number_at base text p k * base + digitValue (byte_at text (p + k))
+number_at base text p (suc k) = number_at base text p k * base + digit_value (byte_at text (p + k))
 
 -- the digits from p on, at most so many: how many, and what they spell
-abbrev pub scanOf : ℕ → ℕ → List ℕ → ℕ → Scan
-scanOf base most text p = record { value = number_at base text p (digitRun base most text p); digits = digitRun base most text p }
+abbrev pub scan_of : ℕ → ℕ → List ℕ → ℕ → Scan
+scan_of base most text p = record { value = number_at base text p (digit_run base most text p); digits = digit_run base most text p }

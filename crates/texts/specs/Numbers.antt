@@ -3,12 +3,12 @@ use Rattle.std.specs.Prelude.{ℕ, zero, suc, ◌+◌, ◌/◌, ◌<◌, ◌≡�
 use Rattle.io.specs.Digits.{last_digits}
 use Rattle.texts.specs.declared.Number.{Number}
 use Rattle.texts.specs.declared.Number.TheVariants.{Is, Not}
-use Rattle.texts.specs.Digits.{digitRun, number_at}
+use Rattle.texts.specs.Digits.{digit_run, number_at}
 
 -- one to so many decimal digits from p on, and no digit after them: what they spell, and the place after them
-unfoldable pub numberFrom : ℕ → List ℕ → ℕ → Number
-numberFrom most text p =
-    let k = digitRun 10 (most + 1) text p in
+unfoldable pub number_from : ℕ → List ℕ → ℕ → Number
+number_from most text p =
+    let k = digit_run 10 (most + 1) text p in
     cond (ltb 0 k && leb k most) (Is (number_at 10 text p k) (p + k)) Not
 
 -- how many decimal digits n has, up to d + 1
@@ -17,15 +17,15 @@ places zero n = 1
 places (suc d) n = cond (ltb n 10) 1 (suc (places d (n / 10)))
 
 -- n in decimal, with no zero in front; every u64 has at most 20 digits
-unfoldable pub decimalText : ℕ → List ℕ
-decimalText n = last_digits 10 (places 19 n) n
+unfoldable pub decimal_text : ℕ → List ℕ
+decimal_text n = last_digits 10 (places 19 n) n
 
 -- of 20 bytes, those from start on are n in decimal
 pub record Spelled (n : ℕ) (l : List ℕ) (start : ℕ) : Type 0 where
   pub size : length l ≡ 20
   pub inside : start < 20
-  pub text : drop start l ≡ decimalText n
+  pub text : drop start l ≡ decimal_text n
 
 -- a word of 64 bits in its 16 lowercase hex digits
-unfoldable pub hexText : ℕ → List ℕ
-hexText w = last_digits 16 16 w
+unfoldable pub hex_text : ℕ → List ℕ
+hex_text w = last_digits 16 16 w

@@ -1,27 +1,27 @@
 -- Whole numbers at the start of a text, by their value, however long. Definitions only.
 use Rattle.std.specs.Prelude.{ℕ, zero, suc, ◌+◌, ◌*◌, ◌≤◌, ◌<◌, ◌≡◌, true, cond, List, [], ◌∷◌, length, drop}
 use Rattle.texts.specs.declared.Scan.{Scan}
-use Rattle.texts.specs.Digits.{byte_at, isDigit, digitValue, number_at}
+use Rattle.texts.specs.Digits.{byte_at, is_digit, digit_value, number_at}
 
 -- what v and the digits after it spell
 unfoldable pub worth : ℕ → List ℕ → ℕ
 worth v [] = v
-worth v (b ∷ l) = cond (isDigit 10 b) (worth (v * 10 + digitValue b) l) v
+worth v (b ∷ l) = cond (is_digit 10 b) (worth (v * 10 + digit_value b) l) v
 
 -- the text after its digits
 unfoldable pub past : List ℕ → List ℕ
 past [] = []
-past (b ∷ l) = cond (isDigit 10 b) (past l) (b ∷ l)
+past (b ∷ l) = cond (is_digit 10 b) (past l) (b ∷ l)
 
 -- k digits stand from p on
 pub record DigitsAt (text : List ℕ) (p k : ℕ) : Type 0 where
   pub inside : p + k ≤ length text
-  pub all : (j : ℕ) → j < k → isDigit 10 (byte_at text (p + j)) ≡ true
+  pub all : (j : ℕ) → j < k → is_digit 10 (byte_at text (p + j)) ≡ true
 
 -- the value of the last of k digits from p on; 0 where there is none
 abbrev pub last_of : List ℕ → ℕ → ℕ → ℕ
 last_of text p zero = 0
-last_of text p (suc k) = digitValue (byte_at text (p + k))
+last_of text p (suc k) = digit_value (byte_at text (p + k))
 
 -- v stands for the number w: it is w up to the limit, and above the limit where w is
 pub record Capped (most v w : ℕ) : Type 0 where

@@ -1,7 +1,7 @@
 // Reading: bytes and digits at a place.
 ghost use Rattle.std.specs.Prelude.{◌≡◌, ◌≤◌, ◌<◌, ◌^◌};
-ghost use Rattle.texts.specs.Digits.{byte_at, starts_with, digitValue, scanOf};
-ghost use Rattle.texts.specs.Numbers.{numberFrom};
+ghost use Rattle.texts.specs.Digits.{byte_at, starts_with, digit_value, scan_of};
+ghost use Rattle.texts.specs.Numbers.{number_from};
 
 use super::{Number, Scan};
 
@@ -17,7 +17,7 @@ pub fn byte_at(text: &[u8], p: usize) -> u8
 
 // The value of a digit, 0 to 9 or a to f; 16 for any other byte.
 pub fn digit_value(b: u8) -> u64
-    ensures { result ≡ digitValue b }
+    ensures { result ≡ digit_value b }
 {
     if b < b'0' {
         return 16;
@@ -37,7 +37,7 @@ pub fn digit_value(b: u8) -> u64
 // The digits of the base from p on, at most so many.
 pub fn scan(text: &[u8], p: usize, base: u64, most: usize) -> Scan
     requires { (p < 2 ^ 63) × (base ≤ 16) × (most ≤ 16) }
-    ensures { result ≡ scanOf base most text.now p }
+    ensures { result ≡ scan_of base most text.now p }
 {
     let mut value = 0u64;
     let mut k = 0usize;
@@ -69,7 +69,7 @@ pub fn starts_with(word: &[u8], text: &[u8]) -> bool
 // One to so many decimal digits from p on, and no digit after them.
 pub fn number(text: &[u8], p: usize, most: usize) -> Number
     requires { (p < 2 ^ 63) × (most < 16) }
-    ensures { result ≡ numberFrom most text.now p }
+    ensures { result ≡ number_from most text.now p }
 {
     let s = scan(text, p, 10, most + 1);
     let digits = s.digits;

@@ -1,7 +1,7 @@
 // Writing: each function puts a text after the first `at` bytes of a lent buffer and answers how many are then written. A full buffer takes no more.
 ghost use Rattle.std.specs.Prelude.{◌≡◌, [], ◌∷◌, length};
 ghost use Rattle.texts.specs.Page.{page, written, Fitting};
-ghost use Rattle.texts.specs.Numbers.{decimalText, hexText, Spelled};
+ghost use Rattle.texts.specs.Numbers.{decimal_text, hex_text, Spelled};
 
 pub fn byte(out: &mut [u8], at: usize, b: u8) -> usize
     ensures { page out.new result ≡ written (page out.old at) (b ∷ []) }
@@ -58,7 +58,7 @@ fn spell(n: u64, digits: &mut [u8; 20]) -> usize
 
 // In decimal, with no zero in front.
 pub fn number(out: &mut [u8], at: usize, n: u64) -> usize
-    ensures { page out.new result ≡ written (page out.old at) (decimalText n) }
+    ensures { page out.new result ≡ written (page out.old at) (decimal_text n) }
 {
     let mut digits = [0u8; 20];
     let start = spell(n, &mut digits);
@@ -67,7 +67,7 @@ pub fn number(out: &mut [u8], at: usize, n: u64) -> usize
 
 // A word in 16 hex digits.
 pub fn word(out: &mut [u8], at: usize, w: u64) -> usize
-    ensures { page out.new result ≡ written (page out.old at) (hexText w) }
+    ensures { page out.new result ≡ written (page out.old at) (hex_text w) }
 {
     let mut digits = [0u8; 16];
     let count = io::hex(w, 16, &mut digits);

@@ -2,7 +2,7 @@
 use borrow.Author.Rules.{rules}
 use mir.Syntax.{w32}
 use mir.ValLaws.{to_z-of_z}
-use Rattle.derivatives.proofs.Requests.{planned, planned-powi, planned-j0, planned-j1, planned-j2}
+use Rattle.derivatives.proofs.Requests.{planned, planned_powi, planned_j0, planned_j1, planned_j2}
 use Rattle.derivatives.proofs.choose.Statement.{statement}
 use Rattle.derivatives.proofs.choose.Tie as tie
 
@@ -24,14 +24,14 @@ choose_spec =
     (λ c. search rules) (λ c κs. search rules) (λ c κs. search rules) (λ c κs. search rules) (λ c. search rules)
     (λ c κs. search rules) (λ c κs. search rules) (λ c κs. search rules) (λ c. search rules)
     (λ c. search (rules, planned))
-    (λ c. search (rules, planned-powi, to_z-of_z w32))
+    (λ c. search (rules, planned_powi, to_z-of_z w32))
     (λ c. search (rules, planned)) (λ c. search (rules, planned)) (λ c. search (rules, planned)) (λ c. search (rules, planned))
     (λ c. search (rules, planned)) (λ c. search (rules, planned)) (λ c. search (rules, planned)) (λ c. search (rules, planned))
     (λ c. search (rules, planned)) (λ c. search (rules, planned)) (λ c. search (rules, planned)) (λ c. search (rules, planned))
     (λ c. search (rules, planned)) (λ c. search (rules, planned)) (λ c. search (rules, planned)) (λ c. search (rules, planned))
     (λ c. search (rules, planned)) (λ c. search (rules, planned)) (λ c. search (rules, planned)) (λ c. search (rules, planned))
     (λ c. search (rules, planned)) (λ c. search (rules, planned)) (λ c. search (rules, planned))
-    (λ c. search (rules, planned-j0))
-    (λ c. search (rules, planned-j1))
-    (λ c. search (rules, planned-j2))
+    (λ c. search (rules, planned_j0))
+    (λ c. search (rules, planned_j1))
+    (λ c. search (rules, planned_j2))
     (λ c. search (rules, planned)))

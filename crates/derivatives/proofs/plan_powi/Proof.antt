@@ -1,17 +1,17 @@
--- Each way through the tests is a case of `planPowi`: one law a case (Exponent).
+-- Each way through the tests is a case of `plan_powi`: one law a case (Exponent).
 use borrow.Author.Rules.{rules}
-use Rattle.derivatives.proofs.Exponent.{in-range, powi-below, powi-above, powi-one, powi-same, powi-square, powi-chain}
+use Rattle.derivatives.proofs.Exponent.{in_range_lem, powi_below, powi_above, powi_one, powi_same, powi_square, powi_chain}
 use Rattle.derivatives.proofs.plan_powi.Statement.{statement}
 use Rattle.derivatives.proofs.plan_powi.Tie as tie
 
-pub plan-powi-spec : {M : Type 1} → statement M
-plan-powi-spec =
+pub plan_powi_spec : {M : Type 1} → statement M
+plan_powi_spec =
     tie.close
     (tie.spec
-    (λ c. search (rules, powi-below))
-    (λ c. search (rules, powi-above))
-    (λ c κs. search (rules, in-range))
-    (λ c. search (rules, powi-one))
-    (λ c. search (rules, powi-same))
-    (λ c. search (rules, powi-square))
-    (λ c. search (rules, powi-chain)))
+    (λ c. search (rules, powi_below))
+    (λ c. search (rules, powi_above))
+    (λ c κs. search (rules, in_range_lem))
+    (λ c. search (rules, powi_one))
+    (λ c. search (rules, powi_same))
+    (λ c. search (rules, powi_square))
+    (λ c. search (rules, powi_chain)))

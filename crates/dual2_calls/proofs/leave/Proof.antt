@@ -1,11 +1,11 @@
 -- A value leaves its words, a refusal its number: laws over any kind of record (Entries).
 use borrow.Author.Rules.{rules}
 use mathlib.Core.Path.{refl}
-use Rattle.dual2.proofs.Flat.{dual2-laws}
+use Rattle.dual2.proofs.Flat.{dual2_laws}
 use Rattle.dual2.specs.Rules.{outcome}
 use Rattle.dual2.specs.declared.Dual2Answer.TheVariants.{Value, Refused}
-use Rattle.dual2_calls.specs.Kind.{dual2Kind}
-use Rattle.calls.proofs.Entries.{leave-value, leave-refused}
+use Rattle.dual2_calls.specs.Kind.{dual2_kind}
+use Rattle.calls.proofs.Entries.{leave_value, leave_refused}
 use Rattle.dual2_calls.proofs.leave.Statement.{statement}
 use Rattle.dual2_calls.proofs.leave.Tie as tie
 
@@ -14,5 +14,5 @@ leave_spec =
     tie.close
     (tie.spec
     (λ c. search rules) (λ c. search rules) (λ c κs. search rules) (λ c. search rules) (λ c κs. search rules) (λ c. search rules) (λ c. search rules)
-    (λ c. search (rules, leave-value dual2Kind dual2-laws outcome Value (λ x. refl)))
-    (λ c. search (rules, leave-refused dual2Kind dual2-laws outcome Refused (λ n. refl))))
+    (λ c. search (rules, leave_value dual2_kind dual2_laws outcome Value (λ x. refl)))
+    (λ c. search (rules, leave_refused dual2_kind dual2_laws outcome Refused (λ n. refl))))

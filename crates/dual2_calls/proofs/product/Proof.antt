@@ -1,13 +1,13 @@
 -- What joins the run is left in floats (Entries).
 use borrow.Author.Rules.{rules}
-use Rattle.dual2_calls.specs.Kind.{dual2Kind}
+use Rattle.dual2_calls.specs.Kind.{dual2_kind}
 use Rattle.calls.proofs.Entries.{multiplied}
 use Rattle.dual2_calls.proofs.product.Statement.{statement}
 use Rattle.dual2_calls.proofs.product.Tie as tie
 
-pub product-spec : {M : Type 1} → statement M
-product-spec =
+pub product_spec : {M : Type 1} → statement M
+product_spec =
     tie.close
     (tie.spec
     (λ c κs. search rules) (λ c κs. search rules) (λ c. search rules)
-    (λ c. search (rules, multiplied dual2Kind)))
+    (λ c. search (rules, multiplied dual2_kind)))

@@ -1,17 +1,17 @@
 -- The call of the number, of the three records that were read, leaves what it does (Entries).
 use borrow.Author.Rules.{rules}
-use Rattle.dual3.proofs.Flat.{dual3-laws}
-use Rattle.dual3_calls.specs.Kind.{dual3Kind}
-use Rattle.calls.proofs.Fitting.{call-sized}
+use Rattle.dual3.proofs.Flat.{dual3_laws}
+use Rattle.dual3_calls.specs.Kind.{dual3_kind}
+use Rattle.calls.proofs.Fitting.{call_sized}
 use Rattle.calls.proofs.Entries.{called}
 use Rattle.dual3_calls.proofs.call.Statement.{statement}
 use Rattle.dual3_calls.proofs.call.Tie as tie
 
-pub call-spec : {M : Type 1} → statement M
-call-spec =
+pub call_spec : {M : Type 1} → statement M
+call_spec =
     tie.close
     (tie.spec
     (λ c κs. search rules) (λ c. search rules) (λ c κs. search rules) (λ c. search rules) (λ c κs. search rules) (λ c. search rules) (λ c κs. search rules) (λ c. search rules) (λ c κs. search rules)
-    (λ c κs. search (rules, call-sized))
+    (λ c κs. search (rules, call_sized))
     (λ c. search rules)
-    (λ c. search (rules, called dual3Kind dual3-laws)))
+    (λ c. search (rules, called dual3_kind dual3_laws)))

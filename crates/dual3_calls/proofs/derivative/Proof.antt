@@ -3,14 +3,14 @@ use borrow.Author.Rules.{rules}
 use Rattle.refusals.specs.Number as refusal
 use Rattle.algebra.specs.Outcome.{refused}
 use Rattle.calls.proofs.Numbered.{numbered_of, none_of}
-use Rattle.dual3_calls.specs.Kind.{dual3Derivatives, dual3DerivativeTable}
+use Rattle.dual3_calls.specs.Kind.{dual3_derivatives, dual3_derivative_table}
 use Rattle.dual3_calls.proofs.derivative.Statement.{statement}
 use Rattle.dual3_calls.proofs.derivative.Tie as tie
 
-pub derivative-spec : {M : Type 1} → statement M
-derivative-spec =
+pub derivative_spec : {M : Type 1} → statement M
+derivative_spec =
     tie.close
     (tie.spec
     (λ c κs. search rules)
-    (λ c. search (rules, numbered_of dual3Derivatives))
-    (λ c. search (rules, none_of dual3DerivativeTable (refused refusal.wrongLength))))
+    (λ c. search (rules, numbered_of dual3_derivatives))
+    (λ c. search (rules, none_of dual3_derivative_table (refused refusal.wrong_length))))

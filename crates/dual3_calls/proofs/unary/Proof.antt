@@ -1,13 +1,13 @@
--- Each arm is a case of `unaryOf`: one law over any kind of record (Arms).
+-- Each arm is a case of `unary_of`: one law over any kind of record (Arms).
 use borrow.Author.Rules.{rules}
-use Rattle.dual3_calls.specs.Kind.{dual3Kind}
+use Rattle.dual3_calls.specs.Kind.{dual3_kind}
 use Rattle.calls.proofs.Arms.{arm_unary}
 use Rattle.dual3_calls.proofs.unary.Statement.{statement}
 use Rattle.dual3_calls.proofs.unary.Tie as tie
 
-pub unary-spec : {M : Type 1} → statement M
-unary-spec =
+pub unary_spec : {M : Type 1} → statement M
+unary_spec =
     tie.close
     (tie.spec
     (λ c. search rules) (λ c κs. search rules) (λ c. search rules) (λ c κs. search rules) (λ c. search rules) (λ c κs. search rules)
-    (λ c. search (rules, arm_unary dual3Kind)) (λ c. search (rules, arm_unary dual3Kind)) (λ c. search (rules, arm_unary dual3Kind)))
+    (λ c. search (rules, arm_unary dual3_kind)) (λ c. search (rules, arm_unary dual3_kind)) (λ c. search (rules, arm_unary dual3_kind)))

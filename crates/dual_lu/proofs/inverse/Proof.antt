@@ -1,19 +1,19 @@
 -- The number 0 allows the work; each way out is one of the promise (EntriesAnswered).
 use borrow.Author.Rules.{rules}
-use Rattle.dual.specs.Rules.{dualAlgebra, dualLayout}
-use Rattle.matrices.proofs.Answers.{inverse-refused}
-use Rattle.matrices.proofs.EntriesAnswered.{inverse-allowed, inverse-answers}
-use Rattle.dual.proofs.Flat.{dual-laws}
+use Rattle.dual.specs.Rules.{dual_algebra, dual_layout}
+use Rattle.matrices.proofs.Answers.{inverse_refused}
+use Rattle.matrices.proofs.EntriesAnswered.{inverse_allowed, inverse_answers}
+use Rattle.dual.proofs.Flat.{dual_laws}
 use Rattle.dual_lu.proofs.inverse.Statement.{statement}
 use Rattle.dual_lu.proofs.inverse.Tie as tie
 
-pub inverse-spec : {M : Type 1} → statement M
-inverse-spec =
+pub inverse_spec : {M : Type 1} → statement M
+inverse_spec =
     tie.close
     (tie.spec
     (λ c κs. search rules)
-    (λ c. search (rules, inverse-refused dualAlgebra dualLayout))
+    (λ c. search (rules, inverse_refused dual_algebra dual_layout))
     -- the number is 0: the lengths are the wanted ones, the order is one
-    (λ c κs. inverse-allowed dual-laws _ _ _ _ _ c.before.before.inverse.ensures c.before.if1.false)
+    (λ c κs. inverse_allowed dual_laws _ _ _ _ _ c.before.before.inverse.ensures c.before.if1.false)
     (λ c. search rules)
-    (λ c. search (rules, inverse-answers dual-laws)))
+    (λ c. search (rules, inverse_answers dual_laws)))

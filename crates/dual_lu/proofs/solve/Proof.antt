@@ -1,19 +1,19 @@
 -- The number 0 allows the work; each way out is one of the promise (EntriesAnswered).
 use borrow.Author.Rules.{rules}
-use Rattle.dual.specs.Rules.{dualAlgebra, dualLayout}
-use Rattle.matrices.proofs.Answers.{solve-refused}
-use Rattle.matrices.proofs.EntriesAnswered.{solve-allowed, solve-answers}
-use Rattle.dual.proofs.Flat.{dual-laws}
+use Rattle.dual.specs.Rules.{dual_algebra, dual_layout}
+use Rattle.matrices.proofs.Answers.{solve_refused}
+use Rattle.matrices.proofs.EntriesAnswered.{solve_allowed, solve_answers}
+use Rattle.dual.proofs.Flat.{dual_laws}
 use Rattle.dual_lu.proofs.solve.Statement.{statement}
 use Rattle.dual_lu.proofs.solve.Tie as tie
 
-pub solve-spec : {M : Type 1} → statement M
-solve-spec =
+pub solve_spec : {M : Type 1} → statement M
+solve_spec =
     tie.close
     (tie.spec
     (λ c κs. search rules)
-    (λ c. search (rules, solve-refused dualAlgebra dualLayout))
+    (λ c. search (rules, solve_refused dual_algebra dual_layout))
     -- the number is 0: the lengths are the wanted ones, the order is one
-    (λ c κs. let s = c.before.before.before.before.before.before.before.args in solve-allowed dual-laws _ _ _ s.b.now s.x.now _ c.before.before.solve.ensures c.before.if1.false)
+    (λ c κs. let s = c.before.before.before.before.before.before.before.args in solve_allowed dual_laws _ _ _ s.b.now s.x.now _ c.before.before.solve.ensures c.before.if1.false)
     (λ c. search rules)
-    (λ c. search (rules, solve-answers dual-laws)))
+    (λ c. search (rules, solve_answers dual_laws)))

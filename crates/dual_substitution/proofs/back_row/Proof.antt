@@ -1,15 +1,15 @@
 -- The element is made in hand and stored once; the definition stores it at each product, to the same end (Substitution).
 use borrow.Author.Rules.{rules}
 use Rattle.matrices.proofs.Substitution.{backed}
-use Rattle.dual.proofs.Flat.{dual-laws}
+use Rattle.dual.proofs.Flat.{dual_laws}
 use Rattle.dual_substitution.proofs.back_row.Statement.{statement}
 use Rattle.dual_substitution.proofs.back_row.Tie as tie
 
-pub back-row-spec : {M : Type 1} → statement M
-back-row-spec =
+pub back_row_spec : {M : Type 1} → statement M
+back_row_spec =
     tie.close
     (tie.spec
     (λ c. search rules) (λ c. search rules) (λ c. search rules) (λ c κs. search rules) (λ c κs. search rules)
     (λ c. search rules) (λ c. search rules) (λ c κs. search rules) (λ c κs. search rules) (λ c κs. search rules)
     (λ c. search rules)
-    (λ c. search (rules, backed dual-laws)))
+    (λ c. search (rules, backed dual_laws)))

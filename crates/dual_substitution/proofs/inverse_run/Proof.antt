@@ -2,15 +2,15 @@
 use borrow.Author.Rules.{rules}
 use Prim.Native.Nat.{◌-◌}
 use Rattle.matrices.specs.Matrix.{Square}
-use Rattle.matrices.proofs.Places.{strided-column}
-use Rattle.matrices.proofs.Turns.{run-turn, run_end}
-use Rattle.matrices.proofs.StartsWritten.{Inverting, inverse-start}
-use Rattle.dual.proofs.Flat.{dual-laws}
+use Rattle.matrices.proofs.Places.{strided_column}
+use Rattle.matrices.proofs.Turns.{run_turn, run_end}
+use Rattle.matrices.proofs.StartsWritten.{Inverting, inverse_start}
+use Rattle.dual.proofs.Flat.{dual_laws}
 use Rattle.dual_substitution.proofs.inverse_run.Statement.{statement}
 use Rattle.dual_substitution.proofs.inverse_run.Tie as tie
 
 abbrev invariant-loop : tie.invariant-loop
-invariant-loop n a order x₀ j₀ x j = Inverting dual-laws n a order x₀ x j
+invariant-loop n a order x₀ j₀ x j = Inverting dual_laws n a order x₀ x j
 
 abbrev decreases-loop : tie.decreases-loop
 decreases-loop n a order x₀ j₀ x j = n - j
@@ -20,16 +20,16 @@ substitute-requires : tie.Need-substitute-requires invariant-loop decreases-loop
 substitute-requires c κs =
     let at = c.before.before in
     let sq : Square 2 at.before.before.before.before.before.before.before.before.args.n at.loop.x = search rules in
-    (search rules, strided-column 2 _ _ _ sq c.before.loop-test.true)
+    (search rules, strided_column 2 _ _ _ sq c.before.loop-test.true)
 
-pub inverse-run-spec : {M : Type 1} → statement M
-inverse-run-spec =
+pub inverse_run_spec : {M : Type 1} → statement M
+inverse_run_spec =
     tie.close
     (tie.spec invariant-loop decreases-loop
     (λ c κs. search rules)
-    (λ c. search (rules, inverse-start dual-laws))
+    (λ c. search (rules, inverse_start dual_laws))
     substitute-requires
     (λ c. search rules) (λ c. search rules)
-    (λ c. search (rules, run-turn dual-laws))
+    (λ c. search (rules, run_turn dual_laws))
     (λ c. search rules)
-    (λ c. search (rules, run_end dual-laws)))
+    (λ c. search (rules, run_end dual_laws)))

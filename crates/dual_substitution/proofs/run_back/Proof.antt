@@ -2,15 +2,15 @@
 use borrow.Author.Rules.{rules}
 use Prim.Native.Nat.{◌-◌, ◌<◌}
 use native.Mathlib.Omega.{arith}
-use Rattle.matrices.proofs.Places.{row-place, strided-keep, strided-place}
-use Rattle.matrices.proofs.Turns.{run-turn, run_end}
+use Rattle.matrices.proofs.Places.{row_place, strided_keep, strided_place}
+use Rattle.matrices.proofs.Turns.{run_turn, run_end}
 use Rattle.matrices.proofs.Substitution.{Backing, backing}
-use Rattle.dual.proofs.Flat.{dual-laws}
+use Rattle.dual.proofs.Flat.{dual_laws}
 use Rattle.dual_substitution.proofs.run_back.Statement.{statement}
 use Rattle.dual_substitution.proofs.run_back.Tie as tie
 
 abbrev invariant-loop : tie.invariant-loop
-invariant-loop n a x₀ stride base t₀ x t = Backing dual-laws n a x₀ stride base x t
+invariant-loop n a x₀ stride base t₀ x t = Backing dual_laws n a x₀ stride base x t
 
 abbrev decreases-loop : tie.decreases-loop
 decreases-loop n a x₀ stride base t₀ x t = n - t
@@ -20,16 +20,16 @@ back-row-requires : tie.Need-back-row-requires invariant-loop decreases-loop
 back-row-requires c κs =
     let n = c.before.before.before.before.before.args.n in
     let h : n - 1 - c.before.before.loop.t < n = omega arith in
-    search (rules, row-place, strided-keep, strided-place)
+    search (rules, row_place, strided_keep, strided_place)
 
-pub run-back-spec : {M : Type 1} → statement M
-run-back-spec =
+pub run_back_spec : {M : Type 1} → statement M
+run_back_spec =
     tie.close
     (tie.spec invariant-loop decreases-loop
-    (λ c. backing dual-laws _ _ _ _ _)
+    (λ c. backing dual_laws _ _ _ _ _)
     (λ c. omega arith) (λ c. omega arith)
     back-row-requires
     (λ c. search rules) (λ c. search rules)
-    (λ c. search (rules, run-turn dual-laws))
+    (λ c. search (rules, run_turn dual_laws))
     (λ c. search rules)
-    (λ c. search (rules, run_end dual-laws)))
+    (λ c. search (rules, run_end dual_laws)))

@@ -4,7 +4,7 @@ use Prim.Native.Nat.{◌-◌}
 use lib.ListN.{length, replicate, length-set, length-replicate, get_or-replicate}
 use lib.Ieee.{nan}
 use native.Mathlib.Omega.{arith}
-use Rattle.floats.proofs.Fill.{Filled, filled_more, filled-all}
+use Rattle.floats.proofs.Fill.{Filled, filled_more, filled_all}
 use Rattle.real.specs.Operations.{zero}
 use Rattle.floats.proofs.clear.Statement.{statement}
 use Rattle.floats.proofs.clear.Tie as tie
@@ -29,7 +29,7 @@ loop-again c =
 returns : tie.Need-returns invariant-loop decreases-loop
 returns c =
     let at = c.before in
-    filled-all nan (λ k. zero) at.loop.to (replicate (length at.before.args.to.now) zero) at.loop.i c.loop-test.false (at.loop.invariant.0 ∙ sym (length-replicate (length at.before.args.to.now) zero)) at.loop.invariant.1 (λ k h. get_or-replicate (length at.before.args.to.now) k zero nan (omega arith))
+    filled_all nan (λ k. zero) at.loop.to (replicate (length at.before.args.to.now) zero) at.loop.i c.loop-test.false (at.loop.invariant.0 ∙ sym (length-replicate (length at.before.args.to.now) zero)) at.loop.invariant.1 (λ k h. get_or-replicate (length at.before.args.to.now) k zero nan (omega arith))
 
 pub clear_spec : {M : Type 1} → statement M
 clear_spec =

@@ -4,7 +4,7 @@ use Prim.Native.Nat.{◌-◌}
 use lib.ListN.{length, get_or, length-set}
 use lib.Ieee.{nan}
 use native.Mathlib.Omega.{arith}
-use Rattle.floats.proofs.Fill.{Filled, filled_more, filled-all}
+use Rattle.floats.proofs.Fill.{Filled, filled_more, filled_all}
 use Rattle.floats.proofs.copy.Statement.{statement}
 use Rattle.floats.proofs.copy.Tie as tie
 
@@ -28,7 +28,7 @@ loop-again c =
 returns : tie.Need-returns invariant-loop decreases-loop
 returns c =
     let at = c.before in
-    filled-all nan (λ k. get_or at.before.args.from.now k nan) at.loop.to at.before.args.from.now at.loop.i c.loop-test.false (omega arith) at.loop.invariant.1 (λ k h. refl)
+    filled_all nan (λ k. get_or at.before.args.from.now k nan) at.loop.to at.before.args.from.now at.loop.i c.loop-test.false (omega arith) at.loop.invariant.1 (λ k h. refl)
 
 pub copy_spec : {M : Type 1} → statement M
 copy_spec =

@@ -1,15 +1,15 @@
--- Each arm is a case of `binaryOf`: one law over any kind of record (Arms).
+-- Each arm is a case of `binary_of`: one law over any kind of record (Arms).
 use borrow.Author.Rules.{rules}
-use Rattle.hyperdual_calls.specs.Kind.{hyperDualKind}
+use Rattle.hyperdual_calls.specs.Kind.{hyper_dual_kind}
 use Rattle.calls.proofs.Arms.{arm_binary}
 use Rattle.hyperdual_calls.proofs.binary.Statement.{statement}
 use Rattle.hyperdual_calls.proofs.binary.Tie as tie
 
-pub binary-spec : {M : Type 1} → statement M
-binary-spec =
+pub binary_spec : {M : Type 1} → statement M
+binary_spec =
     tie.close
     (tie.spec
     (λ c. search rules) (λ c κs. search rules) (λ c. search rules) (λ c κs. search rules) (λ c. search rules) (λ c κs. search rules)
     (λ c. search rules) (λ c κs. search rules) (λ c. search rules) (λ c κs. search rules)
-    (λ c. search (rules, arm_binary hyperDualKind)) (λ c. search (rules, arm_binary hyperDualKind)) (λ c. search (rules, arm_binary hyperDualKind))
-    (λ c. search (rules, arm_binary hyperDualKind)) (λ c. search (rules, arm_binary hyperDualKind)))
+    (λ c. search (rules, arm_binary hyper_dual_kind)) (λ c. search (rules, arm_binary hyper_dual_kind)) (λ c. search (rules, arm_binary hyper_dual_kind))
+    (λ c. search (rules, arm_binary hyper_dual_kind)) (λ c. search (rules, arm_binary hyper_dual_kind)))

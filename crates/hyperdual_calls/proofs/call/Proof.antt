@@ -1,17 +1,17 @@
 -- The call of the number, of the three records that were read, leaves what it does (Entries).
 use borrow.Author.Rules.{rules}
-use Rattle.hyperdual.proofs.Flat.{hyper-dual-laws}
-use Rattle.hyperdual_calls.specs.Kind.{hyperDualKind}
-use Rattle.calls.proofs.Fitting.{call-sized}
+use Rattle.hyperdual.proofs.Flat.{hyper_dual_laws}
+use Rattle.hyperdual_calls.specs.Kind.{hyper_dual_kind}
+use Rattle.calls.proofs.Fitting.{call_sized}
 use Rattle.calls.proofs.Entries.{called}
 use Rattle.hyperdual_calls.proofs.call.Statement.{statement}
 use Rattle.hyperdual_calls.proofs.call.Tie as tie
 
-pub call-spec : {M : Type 1} → statement M
-call-spec =
+pub call_spec : {M : Type 1} → statement M
+call_spec =
     tie.close
     (tie.spec
     (λ c κs. search rules) (λ c. search rules) (λ c κs. search rules) (λ c. search rules) (λ c κs. search rules) (λ c. search rules) (λ c κs. search rules) (λ c. search rules) (λ c κs. search rules)
-    (λ c κs. search (rules, call-sized))
+    (λ c κs. search (rules, call_sized))
     (λ c. search rules)
-    (λ c. search (rules, called hyperDualKind hyper-dual-laws)))
+    (λ c. search (rules, called hyper_dual_kind hyper_dual_laws)))

@@ -1,17 +1,17 @@
--- Each arm is a case of `operateOf`: one law over any kind of record (Arms).
+-- Each arm is a case of `operate_of`: one law over any kind of record (Arms).
 use borrow.Author.Rules.{rules}
-use Rattle.hyperdual_calls.specs.Kind.{hyperDualKind}
-use Rattle.calls.proofs.Arms.{arm-operation}
+use Rattle.hyperdual_calls.specs.Kind.{hyper_dual_kind}
+use Rattle.calls.proofs.Arms.{arm_operation}
 use Rattle.hyperdual_calls.proofs.operate.Statement.{statement}
 use Rattle.hyperdual_calls.proofs.operate.Tie as tie
 
-pub operate-spec : {M : Type 1} → statement M
-operate-spec =
+pub operate_spec : {M : Type 1} → statement M
+operate_spec =
     tie.close
     (tie.spec
     (λ c. search rules) (λ c κs. search rules) (λ c. search rules) (λ c κs. search rules) (λ c. search rules) (λ c κs. search rules)
     (λ c. search rules) (λ c κs. search rules) (λ c. search rules) (λ c κs. search rules) (λ c. search rules) (λ c κs. search rules)
     (λ c. search rules) (λ c κs. search rules) (λ c. search rules) (λ c κs. search rules) (λ c. search rules) (λ c κs. search rules)
-    (λ c. search (rules, arm-operation hyperDualKind)) (λ c. search (rules, arm-operation hyperDualKind)) (λ c. search (rules, arm-operation hyperDualKind))
-    (λ c. search (rules, arm-operation hyperDualKind)) (λ c. search (rules, arm-operation hyperDualKind)) (λ c. search (rules, arm-operation hyperDualKind))
-    (λ c. search (rules, arm-operation hyperDualKind)) (λ c. search (rules, arm-operation hyperDualKind)) (λ c. search (rules, arm-operation hyperDualKind)))
+    (λ c. search (rules, arm_operation hyper_dual_kind)) (λ c. search (rules, arm_operation hyper_dual_kind)) (λ c. search (rules, arm_operation hyper_dual_kind))
+    (λ c. search (rules, arm_operation hyper_dual_kind)) (λ c. search (rules, arm_operation hyper_dual_kind)) (λ c. search (rules, arm_operation hyper_dual_kind))
+    (λ c. search (rules, arm_operation hyper_dual_kind)) (λ c. search (rules, arm_operation hyper_dual_kind)) (λ c. search (rules, arm_operation hyper_dual_kind)))

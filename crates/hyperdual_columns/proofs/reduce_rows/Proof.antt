@@ -1,27 +1,27 @@
 -- The loop keeps: the rows left to reduce give the whole (Turns).
 use borrow.Author.Rules.{rules}
 use Prim.Native.Nat.{◌-◌}
-use Rattle.matrices.proofs.Places.{row-place-kept}
-use Rattle.matrices.proofs.Turns.{run-turn, run_end}
+use Rattle.matrices.proofs.Places.{row_place_kept}
+use Rattle.matrices.proofs.Turns.{run_turn, run_end}
 use Rattle.matrices.proofs.RowsReduced.{Reducing, reducing}
-use Rattle.hyperdual.proofs.Flat.{hyper-dual-laws}
+use Rattle.hyperdual.proofs.Flat.{hyper_dual_laws}
 use Rattle.hyperdual_columns.proofs.reduce_rows.Statement.{statement}
 use Rattle.hyperdual_columns.proofs.reduce_rows.Tie as tie
 
 abbrev invariant-loop : tie.invariant-loop
-invariant-loop n a₀ i j₀ a j = Reducing hyper-dual-laws n a₀ i a j
+invariant-loop n a₀ i j₀ a j = Reducing hyper_dual_laws n a₀ i a j
 
 abbrev decreases-loop : tie.decreases-loop
 decreases-loop n a₀ i j₀ a j = n - j
 
-pub reduce-rows-spec : {M : Type 1} → statement M
-reduce-rows-spec =
+pub reduce_rows_spec : {M : Type 1} → statement M
+reduce_rows_spec =
     tie.close
     (tie.spec invariant-loop decreases-loop
     (λ c. search rules)
-    (λ c. reducing hyper-dual-laws _ _ _)
-    (λ c κs. search (rules, row-place-kept))
+    (λ c. reducing hyper_dual_laws _ _ _)
+    (λ c κs. search (rules, row_place_kept))
     (λ c. search rules) (λ c. search rules)
-    (λ c. search (rules, run-turn hyper-dual-laws))
+    (λ c. search (rules, run_turn hyper_dual_laws))
     (λ c. search rules)
-    (λ c. search (rules, run_end hyper-dual-laws)))
+    (λ c. search (rules, run_end hyper_dual_laws)))

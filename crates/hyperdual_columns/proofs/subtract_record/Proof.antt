@@ -3,8 +3,8 @@ use borrow.Author.Rules.{rules}
 use Rattle.hyperdual_columns.proofs.subtract_record.Statement.{statement}
 use Rattle.hyperdual_columns.proofs.subtract_record.Tie as tie
 
-pub subtract-record-spec : {M : Type 1} → statement M
-subtract-record-spec =
+pub subtract_record_spec : {M : Type 1} → statement M
+subtract_record_spec =
     tie.close
     (tie.spec
     (λ c κs. search rules) (λ c κs. search rules) (λ c κs. search rules) (λ c κs. search rules) (λ c κs. search rules)

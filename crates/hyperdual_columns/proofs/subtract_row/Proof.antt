@@ -1,24 +1,24 @@
 -- The loop keeps: the multiplier as it is, and what is left to run gives the whole row (RowsReduced).
 use borrow.Author.Rules.{rules}
 use Prim.Native.Nat.{◌-◌}
-use Rattle.matrices.proofs.RowsReduced.{Subtracting, subtract-start, subtract-turn, subtract-end}
-use Rattle.hyperdual.proofs.Flat.{hyper-dual-laws}
+use Rattle.matrices.proofs.RowsReduced.{Subtracting, subtract_start, subtract_turn, subtract_end}
+use Rattle.hyperdual.proofs.Flat.{hyper_dual_laws}
 use Rattle.hyperdual_columns.proofs.subtract_row.Statement.{statement}
 use Rattle.hyperdual_columns.proofs.subtract_row.Tie as tie
 
 abbrev invariant-loop : tie.invariant-loop
-invariant-loop n a₀ i j x to from k₀ a k = Subtracting hyper-dual-laws n a₀ i j x a k
+invariant-loop n a₀ i j x to from k₀ a k = Subtracting hyper_dual_laws n a₀ i j x a k
 
 abbrev decreases-loop : tie.decreases-loop
 decreases-loop n a₀ i j x to from k₀ a k = n - k
 
-pub subtract-row-spec : {M : Type 1} → statement M
-subtract-row-spec =
+pub subtract_row_spec : {M : Type 1} → statement M
+subtract_row_spec =
     tie.close
     (tie.spec invariant-loop decreases-loop
     (λ c. search rules) (λ c. search rules) (λ c. search rules)
-    (λ c. search (rules, subtract-start hyper-dual-laws))
+    (λ c. search (rules, subtract_start hyper_dual_laws))
     (λ c. search rules) (λ c. search rules) (λ c κs. search rules) (λ c. search rules) (λ c. search rules)
-    (λ c. search (rules, subtract-turn hyper-dual-laws))
+    (λ c. search (rules, subtract_turn hyper_dual_laws))
     (λ c. search rules)
-    (λ c. search (rules, subtract-end hyper-dual-laws)))
+    (λ c. search (rules, subtract_end hyper_dual_laws)))

@@ -1,19 +1,19 @@
 -- The number 0 allows the work; each way out is one of the promise (EntriesAnswered).
 use borrow.Author.Rules.{rules}
-use Rattle.hyperdual.specs.Rules.{hyperDualAlgebra, hyperDualLayout}
-use Rattle.matrices.proofs.Answers.{lu-refused}
-use Rattle.matrices.proofs.EntriesAnswered.{lu-allowed, lu-answers}
-use Rattle.hyperdual.proofs.Flat.{hyper-dual-laws}
+use Rattle.hyperdual.specs.Rules.{hyper_dual_algebra, hyper_dual_layout}
+use Rattle.matrices.proofs.Answers.{lu_refused}
+use Rattle.matrices.proofs.EntriesAnswered.{lu_allowed, lu_answers}
+use Rattle.hyperdual.proofs.Flat.{hyper_dual_laws}
 use Rattle.hyperdual_lu.proofs.lu.Statement.{statement}
 use Rattle.hyperdual_lu.proofs.lu.Tie as tie
 
-pub lu-spec : {M : Type 1} → statement M
-lu-spec =
+pub lu_spec : {M : Type 1} → statement M
+lu_spec =
     tie.close
     (tie.spec
     (λ c κs. search rules)
-    (λ c. search (rules, lu-refused hyperDualAlgebra hyperDualLayout))
+    (λ c. search (rules, lu_refused hyper_dual_algebra hyper_dual_layout))
     -- the number is 0: the lengths are the wanted ones
-    (λ c κs. lu-allowed hyper-dual-laws _ _ _ c.before.before.before.before.before.before.before.args.order.now _ c.before.before.before.lu.ensures c.before.before.if1.false)
+    (λ c κs. lu_allowed hyper_dual_laws _ _ _ c.before.before.before.before.before.before.before.args.order.now _ c.before.before.before.lu.ensures c.before.before.if1.false)
     (λ c. search rules) (λ c. search rules)
-    (λ c. search (rules, lu-answers hyper-dual-laws)))
+    (λ c. search (rules, lu_answers hyper_dual_laws)))

@@ -3,8 +3,8 @@ use borrow.Author.Rules.{rules}
 use Rattle.hyperdual_substitution.proofs.less_product.Statement.{statement}
 use Rattle.hyperdual_substitution.proofs.less_product.Tie as tie
 
-pub less-product-spec : {M : Type 1} → statement M
-less-product-spec =
+pub less_product_spec : {M : Type 1} → statement M
+less_product_spec =
     tie.close
     (tie.spec
     (λ c κs. search rules) (λ c κs. search rules) (λ c κs. search rules) (λ c κs. search rules) (λ c. cc))

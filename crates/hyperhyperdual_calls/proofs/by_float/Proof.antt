@@ -1,15 +1,15 @@
--- Each arm is a case of `byFloatOf`: one law over any kind of record (Arms).
+-- Each arm is a case of `by_float_of`: one law over any kind of record (Arms).
 use borrow.Author.Rules.{rules}
-use Rattle.hyperhyperdual_calls.specs.Kind.{hyperHyperDualKind}
-use Rattle.calls.proofs.Arms.{arm-by-float}
+use Rattle.hyperhyperdual_calls.specs.Kind.{hyper_hyper_dual_kind}
+use Rattle.calls.proofs.Arms.{arm_by_float}
 use Rattle.hyperhyperdual_calls.proofs.by_float.Statement.{statement}
 use Rattle.hyperhyperdual_calls.proofs.by_float.Tie as tie
 
-pub by-float-spec : {M : Type 1} → statement M
-by-float-spec =
+pub by_float_spec : {M : Type 1} → statement M
+by_float_spec =
     tie.close
     (tie.spec
     (λ c. search rules) (λ c κs. search rules) (λ c. search rules) (λ c κs. search rules) (λ c. search rules) (λ c κs. search rules)
     (λ c. search rules) (λ c κs. search rules)
-    (λ c. search (rules, arm-by-float hyperHyperDualKind)) (λ c. search (rules, arm-by-float hyperHyperDualKind)) (λ c. search (rules, arm-by-float hyperHyperDualKind))
-    (λ c. search (rules, arm-by-float hyperHyperDualKind)))
+    (λ c. search (rules, arm_by_float hyper_hyper_dual_kind)) (λ c. search (rules, arm_by_float hyper_hyper_dual_kind)) (λ c. search (rules, arm_by_float hyper_hyper_dual_kind))
+    (λ c. search (rules, arm_by_float hyper_hyper_dual_kind)))

@@ -1,8 +1,8 @@
 -- The call of the number, of the three records that were read, leaves what it does (Entries).
 use borrow.Author.Rules.{rules}
-use Rattle.hyperhyperdual.proofs.Flat.{hyper-hyper-dual-laws}
-use Rattle.hyperhyperdual_calls.specs.Kind.{hyperHyperDualKind}
-use Rattle.calls.proofs.Fitting.{call-sized}
+use Rattle.hyperhyperdual.proofs.Flat.{hyper_hyper_dual_laws}
+use Rattle.hyperhyperdual_calls.specs.Kind.{hyper_hyper_dual_kind}
+use Rattle.calls.proofs.Fitting.{call_sized}
 use Rattle.calls.proofs.Entries.{called}
 use Rattle.hyperhyperdual_calls.proofs.call.Statement.{statement}
 use Rattle.hyperhyperdual_calls.proofs.call.Tie as tie
@@ -18,13 +18,13 @@ returns c =
     let third = c.before.before.before.before.read4.ensures in
     let left = c.before.before.run.ensures in
     let size = c.before.before.before.before.before.before.before.before.before.lent3.given in
-    search (rules, called hyperHyperDualKind hyper-hyper-dual-laws)
+    search (rules, called hyper_hyper_dual_kind hyper_hyper_dual_laws)
 
-pub call-spec : {M : Type 1} → statement M
-call-spec =
+pub call_spec : {M : Type 1} → statement M
+call_spec =
     tie.close
     (tie.spec
     (λ c κs. search rules) (λ c. search rules) (λ c κs. search rules) (λ c. search rules) (λ c κs. search rules) (λ c. search rules) (λ c κs. search rules) (λ c. search rules) (λ c κs. search rules)
-    (λ c κs. search (rules, call-sized))
+    (λ c κs. search (rules, call_sized))
     (λ c. search rules)
     returns)

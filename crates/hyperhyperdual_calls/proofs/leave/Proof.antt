@@ -1,11 +1,11 @@
 -- A value leaves its words, a refusal its number: laws over any kind of record (Entries).
 use borrow.Author.Rules.{rules}
 use mathlib.Core.Path.{refl}
-use Rattle.hyperhyperdual.proofs.Flat.{hyper-hyper-dual-laws}
+use Rattle.hyperhyperdual.proofs.Flat.{hyper_hyper_dual_laws}
 use Rattle.hyperhyperdual.specs.Rules.{outcome}
 use Rattle.hyperhyperdual.specs.declared.HyperHyperDualAnswer.TheVariants.{Value, Refused}
-use Rattle.hyperhyperdual_calls.specs.Kind.{hyperHyperDualKind}
-use Rattle.calls.proofs.Entries.{leave-value, leave-refused}
+use Rattle.hyperhyperdual_calls.specs.Kind.{hyper_hyper_dual_kind}
+use Rattle.calls.proofs.Entries.{leave_value, leave_refused}
 use Rattle.hyperhyperdual_calls.proofs.leave.Statement.{statement}
 use Rattle.hyperhyperdual_calls.proofs.leave.Tie as tie
 
@@ -14,5 +14,5 @@ leave_spec =
     tie.close
     (tie.spec
     (λ c. search rules) (λ c. search rules) (λ c κs. search rules) (λ c. search rules) (λ c κs. search rules) (λ c. search rules) (λ c. search rules)
-    (λ c. search (rules, leave-value hyperHyperDualKind hyper-hyper-dual-laws outcome Value (λ x. refl)))
-    (λ c. search (rules, leave-refused hyperHyperDualKind hyper-hyper-dual-laws outcome Refused (λ n. refl))))
+    (λ c. search (rules, leave_value hyper_hyper_dual_kind hyper_hyper_dual_laws outcome Value (λ x. refl)))
+    (λ c. search (rules, leave_refused hyper_hyper_dual_kind hyper_hyper_dual_laws outcome Refused (λ n. refl))))

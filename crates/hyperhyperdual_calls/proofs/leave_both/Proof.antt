@@ -1,14 +1,14 @@
 -- Both records are written, then their words: one law over any kind of record (Entries).
 use borrow.Author.Rules.{rules}
-use Rattle.hyperhyperdual.proofs.Flat.{hyper-hyper-dual-laws}
-use Rattle.hyperhyperdual_calls.specs.Kind.{hyperHyperDualKind}
-use Rattle.calls.proofs.Entries.{leaves-both}
+use Rattle.hyperhyperdual.proofs.Flat.{hyper_hyper_dual_laws}
+use Rattle.hyperhyperdual_calls.specs.Kind.{hyper_hyper_dual_kind}
+use Rattle.calls.proofs.Entries.{leaves_both}
 use Rattle.hyperhyperdual_calls.proofs.leave_both.Statement.{statement}
 use Rattle.hyperhyperdual_calls.proofs.leave_both.Tie as tie
 
-pub leave-both-spec : {M : Type 1} → statement M
-leave-both-spec =
+pub leave_both_spec : {M : Type 1} → statement M
+leave_both_spec =
     tie.close
     (tie.spec
     (λ c. search rules) (λ c κs. search rules) (λ c. search rules) (λ c κs. search rules) (λ c. search rules) (λ c κs. search rules) (λ c. search rules)
-    (λ c. search (rules, leaves-both hyperHyperDualKind hyper-hyper-dual-laws)))
+    (λ c. search (rules, leaves_both hyper_hyper_dual_kind hyper_hyper_dual_laws)))

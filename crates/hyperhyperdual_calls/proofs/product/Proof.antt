@@ -1,13 +1,13 @@
 -- What joins the run is left in floats (Entries).
 use borrow.Author.Rules.{rules}
-use Rattle.hyperhyperdual_calls.specs.Kind.{hyperHyperDualKind}
+use Rattle.hyperhyperdual_calls.specs.Kind.{hyper_hyper_dual_kind}
 use Rattle.calls.proofs.Entries.{multiplied}
 use Rattle.hyperhyperdual_calls.proofs.product.Statement.{statement}
 use Rattle.hyperhyperdual_calls.proofs.product.Tie as tie
 
-pub product-spec : {M : Type 1} → statement M
-product-spec =
+pub product_spec : {M : Type 1} → statement M
+product_spec =
     tie.close
     (tie.spec
     (λ c κs. search rules) (λ c κs. search rules) (λ c. search rules)
-    (λ c. search (rules, multiplied hyperHyperDualKind)))
+    (λ c. search (rules, multiplied hyper_hyper_dual_kind)))

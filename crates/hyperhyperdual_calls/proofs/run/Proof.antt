@@ -1,7 +1,7 @@
 -- Each arm is a case of `answer_of`: laws over any kind of record (Arms).
 use borrow.Author.Rules.{rules}
-use Rattle.hyperhyperdual_calls.specs.Kind.{hyperHyperDualKind}
-use Rattle.calls.proofs.Arms.{arm-unknown, arm-truth, arm-sin-cos, arm-record, sized-truth, sized-sin-cos, sized-record}
+use Rattle.hyperhyperdual_calls.specs.Kind.{hyper_hyper_dual_kind}
+use Rattle.calls.proofs.Arms.{arm_unknown, arm_truth, arm_sin_cos, arm_record, sized_truth, sized_sin_cos, sized_record}
 use Rattle.hyperhyperdual_calls.proofs.run.Statement.{statement}
 use Rattle.hyperhyperdual_calls.proofs.run.Tie as tie
 
@@ -9,22 +9,22 @@ use Rattle.hyperhyperdual_calls.proofs.run.Tie as tie
 returns-3 : tie.Need-returns-3
 returns-3 c =
     let e = rw c.before.before.before.before.sin-cos.ensures at c.before.before.leave-both.ensures in
-    search (rules, arm-sin-cos hyperHyperDualKind)
+    search (rules, arm_sin_cos hyper_hyper_dual_kind)
 
 pub run_spec : {M : Type 1} → statement M
 run_spec =
     tie.close
     (tie.spec
     (λ c. search rules) (λ c. search rules) (λ c κs. search rules)
-    (λ c κs. search (rules, sized-truth))
+    (λ c κs. search (rules, sized_truth))
     (λ c. search rules) (λ c κs. search rules)
-    (λ c κs. search (rules, sized-sin-cos))
+    (λ c κs. search (rules, sized_sin_cos))
     (λ c. search rules) (λ c κs. search rules)
-    (λ c κs. search (rules, sized-record))
-    (λ c. search (rules, arm-unknown hyperHyperDualKind))
+    (λ c κs. search (rules, sized_record))
+    (λ c. search (rules, arm_unknown hyper_hyper_dual_kind))
     (λ c. search rules)
-    (λ c. search (rules, arm-truth hyperHyperDualKind))
+    (λ c. search (rules, arm_truth hyper_hyper_dual_kind))
     (λ c. search rules)
     returns-3
     (λ c. search rules)
-    (λ c. search (rules, arm-record hyperHyperDualKind)))
+    (λ c. search (rules, arm_record hyper_hyper_dual_kind)))

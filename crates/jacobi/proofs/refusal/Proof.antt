@@ -6,8 +6,8 @@ use Rattle.matrices.proofs.Places.{few}
 use Rattle.jacobi.proofs.refusal.Statement.{statement}
 use Rattle.jacobi.proofs.refusal.Tie as tie
 
-pub refusal-spec : {M : Type 1} → statement M
-refusal-spec =
+pub refusal_spec : {M : Type 1} → statement M
+refusal_spec =
     tie.close
     (tie.spec
     (λ c. search (rules, tests))

@@ -1,6 +1,6 @@
 -- What the sweeps start from, the sweeps and the order are the definition's own three steps.
 use borrow.Author.Rules.{rules}
-use Rattle.dual.specs.Rules.{dualAlgebra}
+use Rattle.dual.specs.Rules.{dual_algebra}
 use Rattle.jacobi.proofs.Ordered.{run_by}
 use Rattle.jacobi.proofs.run.Statement.{statement}
 use Rattle.jacobi.proofs.run.Tie as tie
@@ -18,7 +18,7 @@ returns : tie.Need-returns
 returns c =
     let sorted = c.before.before.before.before in
     let swept = sorted.before.before.before.before.before.before.before.before.before.before.before.before.before in
-    run_by dualAlgebra _ _ _ _ _ _ _ _ _ _ _ (prepared swept).prepare.ensures.1 swept.sweeps.ensures.1 sorted.sort.ensures
+    run_by dual_algebra _ _ _ _ _ _ _ _ _ _ _ (prepared swept).prepare.ensures.1 swept.sweeps.ensures.1 sorted.sort.ensures
 
 pub run_spec : {M : Type 1} → statement M
 run_spec =

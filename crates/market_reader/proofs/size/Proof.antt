@@ -1,13 +1,13 @@
 -- What the head tells, by its size.
 use borrow.Author.Rules.{rules}
-use Rattle.market_reader.proofs.Answering.{size-known, size-refused}
+use Rattle.market_reader.proofs.Answering.{size_known, size_refused}
 use Rattle.market_reader.proofs.size.Statement.{statement}
 use Rattle.market_reader.proofs.size.Tie as tie
 
-pub size-spec : {M : Type 1} → statement M
-size-spec =
+pub size_spec : {M : Type 1} → statement M
+size_spec =
     tie.close
     (tie.spec
     (λ c κs. search rules) (λ c. search rules) (λ c. search rules)
-    (λ c. search (rules, size-known))
-    (λ c. search (rules, size-refused)))
+    (λ c. search (rules, size_known))
+    (λ c. search (rules, size_refused)))

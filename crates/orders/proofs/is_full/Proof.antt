@@ -17,8 +17,8 @@ sub-result c = omega (arith, one_shifted c.args.n (omega arith), pow_pos c.args.
 returns : tie.Need-returns
 returns c = ap (λ (k : ℕ). eqb (c.args.word / 2 ^ 32) (k - 1)) (one_shifted c.args.n (omega arith))
 
-pub is-full-spec : {M : Type 1} → statement M
-is-full-spec = tie.close (tie.spec
+pub is_full_spec : {M : Type 1} → statement M
+is_full_spec = tie.close (tie.spec
     (λ c. search rules)
     sub-result
     returns)

@@ -8,9 +8,9 @@ use lib.ListN.{length, get_or}
 use borrow.Author.Rules.{rules}
 use Rattle.refusals.specs.Largest as largest
 use Rattle.orders.specs.Order.{is_order}
-use Rattle.orders.specs.Walk.{marksWith, isFull}
+use Rattle.orders.specs.Walk.{marks_with, is_full}
 use Rattle.orders.specs.declared.Marks.{Marks}
-use Rattle.orders.proofs.Walk.{Marking, marking, mark-turn, mark-stop, mark-full}
+use Rattle.orders.proofs.Walk.{Marking, marking, mark_turn, mark_stop, mark_full}
 use Rattle.orders.proofs.is_order.Statement.{statement}
 use Rattle.orders.proofs.is_order.Tie as tie
 
@@ -22,22 +22,22 @@ decreases-loop n o m₀ i₀ m i = n - i
 
 -- an entry that is not below n: no order
 stop : (n : ℕ) (o : List ℕ) (m : Marks) (i : ℕ) → Marking n o m i → i < n → length o ≡ n → n ≤ get_or o i 0 → false ≡ is_order n o
-stop n o m i k h long past = sym (mark-stop n o m i k (omega arith) past)
+stop n o m i k h long past = sym (mark_stop n o m i k (omega arith) past)
 
 -- an entry below n has its bits
 bit : (n x : ℕ) → n ≤ largest.n → (n ≤ x → ⊥) → x < largest.n
 bit n x small below = omega arith
 
 -- an entry is marked, and the walk is one further
-turn : {n : ℕ} {o : List ℕ} {m : Marks} {i : ℕ} → Marking n o m i → (m' : Marks) → i < n → n ≤ largest.n → length o ≡ n → (n ≤ get_or o i 0 → ⊥) → m' ≡ marksWith m (get_or o i 0) → Marking n o m' (i + 1)
-turn {n} {o} {m} {i} k m' h small long below em = subst (λ (t : Marks). Marking n o t (i + 1)) (sym em) (mark-turn n o m i k (omega arith) (omega arith) small)
+turn : {n : ℕ} {o : List ℕ} {m : Marks} {i : ℕ} → Marking n o m i → (m' : Marks) → i < n → n ≤ largest.n → length o ≡ n → (n ≤ get_or o i 0 → ⊥) → m' ≡ marks_with m (get_or o i 0) → Marking n o m' (i + 1)
+turn {n} {o} {m} {i} k m' h small long below em = subst (λ (t : Marks). Marking n o t (i + 1)) (sym em) (mark_turn n o m i k (omega arith) (omega arith) small)
 
 -- all walked: the word decides
-full : (n : ℕ) (o : List ℕ) (m : Marks) (i : ℕ) (t : Bool) → Marking n o m i → n ≤ i → length o ≡ n → t ≡ isFull n m.word → t ≡ is_order n o
-full n o m i t k h long e = e ∙ mark-full n o m i k (omega arith) long
+full : (n : ℕ) (o : List ℕ) (m : Marks) (i : ℕ) (t : Bool) → Marking n o m i → n ≤ i → length o ≡ n → t ≡ is_full n m.word → t ≡ is_order n o
+full n o m i t k h long e = e ∙ mark_full n o m i k (omega arith) long
 
-pub is-order-spec : {M : Type 1} → statement M
-is-order-spec =
+pub is_order_spec : {M : Type 1} → statement M
+is_order_spec =
     tie.close
     (tie.spec invariant-loop decreases-loop
     (λ c. marking _ _)

@@ -15,8 +15,8 @@ shifted : (x : ℕ) → x < largest.n → 4294967297 * 2 ^ x % 2 ^ 64 ≡ 429496
 shifted x h = shl_exact 33 x 64 (omega arith) (omega arith)
 
 -- so that the code's word is the definition's
-mark-by : (x : ℕ) → x < largest.n → 4294967297 * 2 ^ x % 2 ^ 64 - 1 ≡ mark_of x
-mark-by x h = let e = shifted x h in let p = pow_pos x in omega arith
+mark_by : (x : ℕ) → x < largest.n → 4294967297 * 2 ^ x % 2 ^ 64 - 1 ≡ mark_of x
+mark_by x h = let e = shifted x h in let p = pow_pos x in omega arith
 
 -- what is shifted is not zero
 sub-t6 : tie.Need-overflow-sub-t6
@@ -27,7 +27,7 @@ returns : tie.Need-returns
 returns c =
     let m = c.before.args.m in
     let x = c.before.args.x in
-    λ i. record { word = bit_xor m.word (mark-by x c.before.requires i); inversions = bit_xor m.inversions (m.word / 2 ^ x) }
+    λ i. record { word = bit_xor m.word (mark_by x c.before.requires i); inversions = bit_xor m.inversions (m.word / 2 ^ x) }
 
 pub mark_spec : {M : Type 1} → statement M
 mark_spec = tie.close (tie.spec

@@ -4,7 +4,7 @@ use lib.Dec.{T}
 use lib.Ieee.{Float, to_bits, binary64}
 use lib.Ieee.Compare.{differs_from_itself}
 use borrow.Author.Rules.{rules}
-use Rattle.real.proofs.Nan.{equal-is-not}
+use Rattle.real.proofs.Nan.{equal_is_not}
 use Rattle.real.proofs.word_of_float.Statement.{statement}
 use Rattle.real.proofs.word_of_float.Tie as tie
 
@@ -17,10 +17,10 @@ returns c =
 
 -- what equals itself is none
 float-to-bits-result : tie.Need-float-to-bits-result
-float-to-bits-result c = equal-is-not c.before.args.x c.if1.false
+float-to-bits-result c = equal_is_not c.before.args.x c.if1.false
 
-pub word-of-float-spec : {M : Type 1} → statement M
-word-of-float-spec = tie.close (tie.spec
+pub word_of_float_spec : {M : Type 1} → statement M
+word_of_float_spec = tie.close (tie.spec
     returns
     float-to-bits-result
     (λ c. search rules))

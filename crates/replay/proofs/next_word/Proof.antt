@@ -9,8 +9,8 @@ invariant-loop file buffer₀ here₀ s₀ turns₀ buffer here s turns = Unit {
 abbrev decreases-loop : tie.decreases-loop
 decreases-loop file buffer₀ here₀ s₀ turns₀ buffer here s turns = turns
 
-pub next-word-spec : {M : Type 1} → statement M
-next-word-spec =
+pub next_word_spec : {M : Type 1} → statement M
+next_word_spec =
     tie.close
     (tie.spec invariant-loop decreases-loop
     (λ c. search rules) (λ c κs. search rules) (λ c. search rules) (λ c. search rules) (λ c. search rules)

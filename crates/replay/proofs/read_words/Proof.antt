@@ -13,8 +13,8 @@ invariant-loop file buffer₀ digits words₀ here₀ whole₀ i₀ buffer words
 abbrev decreases-loop : tie.decreases-loop
 decreases-loop file buffer₀ digits words₀ here₀ whole₀ i₀ buffer words here whole i = length words - i
 
-pub read-words-spec : {M : Type 1} → statement M
-read-words-spec =
+pub read_words_spec : {M : Type 1} → statement M
+read_words_spec =
     tie.close
     (tie.spec invariant-loop decreases-loop
     (λ c. search rules) (λ c κs. search rules) (λ c. search rules) (λ c. search rules) (λ c. search rules)

@@ -10,8 +10,8 @@ invariant-loop file buffer₀ run₀ buffer run = Unit {0}
 abbrev decreases-loop : tie.decreases-loop
 decreases-loop file buffer₀ run₀ buffer run = run.left
 
-pub cases-spec : {M : Type 1} → statement M
-cases-spec =
+pub cases_spec : {M : Type 1} → statement M
+cases_spec =
     tie.close
     (tie.spec invariant-loop decreases-loop
     (λ c κs. search rules) (λ c. search rules) (λ c κs. search rules) (λ c κs. search rules)

@@ -16,8 +16,8 @@ same-length-2 c = c.before.before.before.before.before.before.before.before.befo
 same-length-3 : tie.Need-same-length-3
 same-length-3 c = c.before.before.before.before.before.before.before.before.before.before.before.before.before.before.before.before.before.before.before.before.before.before.before.before.before.before.before.before.before.before.before.before.before.before.before.before.before.before.read-words2.auto.1.1.1.1.0
 
-pub case-of-spec : {M : Type 1} → statement M
-case-of-spec =
+pub case_of_spec : {M : Type 1} → statement M
+case_of_spec =
     tie.close
     (tie.spec
     (λ c κs. search rules) (λ c κs. search rules) (λ c κs. search rules) (λ c κs. search rules) (λ c κs. search rules)

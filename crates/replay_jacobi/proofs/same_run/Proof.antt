@@ -17,8 +17,8 @@ returns-3 c = rw (c.before.before.before.before.before.answer.given.1, eq-eqb _ 
 returns-4 : tie.Need-returns-4
 returns-4 c = rw (c.before.before.before.before.answer.given.1, eq-eqb _ _ c.before.before.if1.false, sym c.before.same-floats.ensures ∙ c.if2.false)
 
-pub same-run-spec : {M : Type 1} → statement M
-same-run-spec =
+pub same_run_spec : {M : Type 1} → statement M
+same_run_spec =
     tie.close
     (tie.spec
     (λ c. search rules) (λ c. search rules) (λ c. search rules)

@@ -12,8 +12,8 @@ returns c = rw (sym c.before.before.same-run.ensures ∙ c.before.if1.true) c.sa
 returns-2 : tie.Need-returns-2
 returns-2 c = rw (sym c.before.same-run.ensures ∙ c.if1.false)
 
-pub same-runs-spec : {M : Type 1} → statement M
-same-runs-spec = tie.close (tie.spec
+pub same_runs_spec : {M : Type 1} → statement M
+same_runs_spec = tie.close (tie.spec
     (λ c κs. search rules) (λ c κs. search rules)
     returns
     returns-2)

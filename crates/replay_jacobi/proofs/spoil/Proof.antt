@@ -7,33 +7,33 @@ use lib.Seq.{get_or-set_other}
 use lib.Ieee.{Float, nan}
 use native.Mathlib.Omega.{arith}
 use Rattle.algebra.specs.Flat.{tabulate}
-use Rattle.algebra.proofs.Flat.{tabulate-length, tabulate-at}
-use Rattle.floats.proofs.Fill.{Filled, filled_more, filled-all}
-use Rattle.replay_jacobi.specs.Runs.{spoiledAt, spoiledOf}
+use Rattle.algebra.proofs.Flat.{tabulate_length, tabulate_at}
+use Rattle.floats.proofs.Fill.{Filled, filled_more, filled_all}
+use Rattle.replay_jacobi.specs.Runs.{spoiled_at, spoiled_of}
 use borrow.Author.Rules.{rules}
 use Rattle.replay_jacobi.proofs.spoil.Statement.{statement}
 use Rattle.replay_jacobi.proofs.spoil.Tie as tie
 
 record Spoiling (n : ℕ) (l a : List Float) (k : ℕ) : Type 0 where
   long : length a ≡ length l
-  filled : Filled nan (λ j. spoiledAt n j (get_or l j nan)) a k
+  filled : Filled nan (λ j. spoiled_at n j (get_or l j nan)) a k
   rest : (j : ℕ) → k ≤ j → get_or a j nan ≡ get_or l j nan
 
-turn : (n : ℕ) (l a : List Float) (k : ℕ) → Spoiling n l a k → (x : Float) → k < length a → x ≡ spoiledAt n k (get_or a k nan) → Spoiling n l (set a k x) (k + 1)
+turn : (n : ℕ) (l a : List Float) (k : ℕ) → Spoiling n l a k → (x : Float) → k < length a → x ≡ spoiled_at n k (get_or a k nan) → Spoiling n l (set a k x) (k + 1)
 turn n l a k s x h e =
-    let x-is : x ≡ spoiledAt n k (get_or l k nan) = e ∙ ap (spoiledAt n k) (s.rest k (omega arith)) in
+    let x-is : x ≡ spoiled_at n k (get_or l k nan) = e ∙ ap (spoiled_at n k) (s.rest k (omega arith)) in
     record {
       long = simp length-set s.long;
-      filled = rw x-is (filled_more nan (λ j. spoiledAt n j (get_or l j nan)) a k h s.filled);
+      filled = rw x-is (filled_more nan (λ j. spoiled_at n j (get_or l j nan)) a k h s.filled);
       rest = λ j lt. get_or-set_other a k j x nan (omega arith) ∙ s.rest j (omega arith);
     }
 
-all : (n : ℕ) (l a : List Float) (k : ℕ) → Spoiling n l a k → length a ≤ k → a ≡ spoiledOf n l
-unfolding spoiledOf
+all : (n : ℕ) (l a : List Float) (k : ℕ) → Spoiling n l a k → length a ≤ k → a ≡ spoiled_of n l
+unfolding spoiled_of
 all n l a k s h =
-    let g : ℕ → Float = λ j. spoiledAt n j (get_or l j nan) in
-    filled-all nan g a (tabulate g (length l) 0) k h (s.long ∙ sym (tabulate-length g (length l) 0)) s.filled
-    (λ j lt. tabulate-at g (length l) 0 j nan (omega (arith, s.long)) ∙ ap g (omega arith))
+    let g : ℕ → Float = λ j. spoiled_at n j (get_or l j nan) in
+    filled_all nan g a (tabulate g (length l) 0) k h (s.long ∙ sym (tabulate_length g (length l) 0)) s.filled
+    (λ j lt. tabulate_at g (length l) 0 j nan (omega (arith, s.long)) ∙ ap g (omega arith))
 
 abbrev invariant-loop : tie.invariant-loop
 invariant-loop n a₀ k₀ a k = Spoiling n a₀ a k
@@ -61,8 +61,8 @@ same_length c = c.before.loop.invariant.long
 returns : tie.Need-returns invariant-loop decreases-loop
 returns c = all _ _ _ _ c.before.loop.invariant c.loop-test.false
 
-pub spoil-spec : {M : Type 1} → statement M
-spoil-spec =
+pub spoil_spec : {M : Type 1} → statement M
+spoil_spec =
     tie.close
     (tie.spec invariant-loop decreases-loop
     loop-holds

@@ -17,8 +17,8 @@ mul-result-2 c = omega (arith, mul-le-mul (mul-le-mul c.requires.0 c.requires.0)
 returns : tie.Need-returns
 returns c = (search rules, omega (arith, mul-le-mul (mul-le-mul c.requires.0 c.requires.0) c.requires.1))
 
-pub floats-in-spec : {M : Type 1} → statement M
-floats-in-spec = tie.close (tie.spec
+pub floats_in_spec : {M : Type 1} → statement M
+floats_in_spec = tie.close (tie.spec
     mul-result
     mul-result-2
     returns)

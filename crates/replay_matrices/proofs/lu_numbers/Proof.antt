@@ -11,8 +11,8 @@ returns c = rw c.before.answer.given.1
 returns-2 : tie.Need-returns-2
 returns-2 c = rw c.before.answer2.given.1
 
-pub lu-numbers-spec : {M : Type 1} → statement M
-lu-numbers-spec =
+pub lu_numbers_spec : {M : Type 1} → statement M
+lu_numbers_spec =
     tie.close (tie.spec
     (λ c. search rules) (λ c. search rules) (λ c. search rules)
     returns

@@ -7,52 +7,52 @@ use lib.Ieee.{Float}
 use borrow.Author.Tests.{eq-eqb, ne_eqb}
 use Rattle.replay.specs.Same.{same_numbers}
 use Rattle.replay_matrices.specs.declared.Numbers.{Numbers}
-use Rattle.replay_matrices.specs.Cases.{sameFloats, zeroNumbers, zeroFloats, sameLu}
+use Rattle.replay_matrices.specs.Cases.{same_floats, zero_numbers, zero_floats, same_lu}
 use borrow.Author.Rules.{rules}
 use Rattle.replay_matrices.proofs.same_lu.Statement.{statement}
 use Rattle.replay_matrices.proofs.same_lu.Tie as tie
 
 module _ (wanted got g : Numbers) (numbers words order : List ℕ) (factors : List Float) (e : got ≡ g) where
-  number-differs : (wanted.number ≡ got.number → ⊥) → false ≡ sameLu wanted numbers words g order factors
-  unfolding sameLu
-  number-differs h = rw (← e, ne_eqb _ _ h)
+  number_differs : (wanted.number ≡ got.number → ⊥) → false ≡ same_lu wanted numbers words g order factors
+  unfolding same_lu
+  number_differs h = rw (← e, ne_eqb _ _ h)
 
   module _ (n : wanted.number ≡ got.number) where
-    count-differs : (wanted.swaps_or_column ≡ got.swaps_or_column → ⊥) → false ≡ sameLu wanted numbers words g order factors
-    unfolding sameLu
-    count-differs h = rw (← e, eq-eqb _ _ n, ne_eqb _ _ h)
+    count_differs : (wanted.swaps_or_column ≡ got.swaps_or_column → ⊥) → false ≡ same_lu wanted numbers words g order factors
+    unfolding same_lu
+    count_differs h = rw (← e, eq-eqb _ _ n, ne_eqb _ _ h)
 
     module _ (b : wanted.swaps_or_column ≡ got.swaps_or_column) where
       -- a refusal: both buffers are zero, the order tested by z
-      module _ (h : wanted.number ≡ 0 → ⊥) (z : Bool) (told : z ≡ zeroNumbers order) where
-        refused : (r : Bool) → z ≡ true → r ≡ zeroFloats factors → r ≡ sameLu wanted numbers words g order factors
-        unfolding sameLu
+      module _ (h : wanted.number ≡ 0 → ⊥) (z : Bool) (told : z ≡ zero_numbers order) where
+        refused : (r : Bool) → z ≡ true → r ≡ zero_floats factors → r ≡ same_lu wanted numbers words g order factors
+        unfolding same_lu
         refused r t f = rw (← e, eq-eqb _ _ n, eq-eqb _ _ b, ne_eqb _ _ h, ← told, t) f
 
-        refused-order : z ≡ false → z ≡ sameLu wanted numbers words g order factors
-        unfolding sameLu
-        refused-order t = rw (← e, eq-eqb _ _ n, eq-eqb _ _ b, ne_eqb _ _ h, ← told, t)
+        refused_order : z ≡ false → z ≡ same_lu wanted numbers words g order factors
+        unfolding same_lu
+        refused_order t = rw (← e, eq-eqb _ _ n, eq-eqb _ _ b, ne_eqb _ _ h, ← told, t)
 
       -- done: both buffers are the recorded ones, the order tested by z
       module _ (h : wanted.number ≡ 0) (z : Bool) (told : z ≡ same_numbers numbers order) where
-        done : (r : Bool) → z ≡ true → r ≡ sameFloats words factors → r ≡ sameLu wanted numbers words g order factors
-        unfolding sameLu
+        done : (r : Bool) → z ≡ true → r ≡ same_floats words factors → r ≡ same_lu wanted numbers words g order factors
+        unfolding same_lu
         done r t f = rw (← e, eq-eqb _ _ n, eq-eqb _ _ b, eq-eqb _ _ h, ← told, t) f
 
-        done_order : z ≡ false → z ≡ sameLu wanted numbers words g order factors
-        unfolding sameLu
+        done_order : z ≡ false → z ≡ same_lu wanted numbers words g order factors
+        unfolding same_lu
         done_order t = rw (← e, eq-eqb _ _ n, eq-eqb _ _ b, eq-eqb _ _ h, ← told, t)
 
-pub same-lu-spec : {M : Type 1} → statement M
-same-lu-spec =
+pub same_lu_spec : {M : Type 1} → statement M
+same_lu_spec =
     tie.close
     (tie.spec
     (λ c κs. search rules)
-    (λ c. search (rules, number-differs))
-    (λ c. search (rules, count-differs))
+    (λ c. search (rules, number_differs))
+    (λ c. search (rules, count_differs))
     (λ c κs. search rules) (λ c κs. search rules)
     (λ c. search (rules, refused))
-    (λ c. search (rules, refused-order))
+    (λ c. search (rules, refused_order))
     (λ c κs. search rules) (λ c κs. search rules)
     (λ c. search (rules, done))
     (λ c. search (rules, done_order)))

@@ -7,8 +7,8 @@ use Rattle.replay_matrices.proofs.same_solved.Tie as tie
 returns : tie.Need-returns
 returns c = rw c.before.enum_told.given.1 c.same-floats.ensures
 
-pub same-solved-spec : {M : Type 1} → statement M
-same-solved-spec =
+pub same_solved_spec : {M : Type 1} → statement M
+same_solved_spec =
     tie.close (tie.spec
     (λ c. search rules) (λ c κs. search rules) (λ c. search rules)
     returns

@@ -13,8 +13,8 @@ case-in-buffers-requires c κs =
     let few = read.ensures in
     (at_most read.result.records _ words (search rules) few.0, (positive read.result.answer answer few.1.1.0 (search rules), at_most read.result.answer _ answer (search rules) few.1.1.1))
 
-pub case-spec : {M : Type 1} → statement M
-case-spec =
+pub case_spec : {M : Type 1} → statement M
+case_spec =
     tie.close
     (tie.spec
     (λ c κs. search rules) (λ c. search rules) (λ c. search rules) (λ c. search rules) (λ c κs. search rules)

@@ -11,19 +11,19 @@ use mir.Val.{SFits, to_z, of_z}
 use mir.ValLaws.{to_z-of_z}
 use borrow.Author.Rules.{rules}
 use Rattle.replay_records.specs.declared.kinds.Kind.{Kind}
-use Rattle.replay_records.specs.Kinds.{sameRecorded}
+use Rattle.replay_records.specs.Kinds.{same_recorded}
 use Rattle.replay_records.proofs.Lent.{as_lent, as_long, positive}
 use Rattle.replay_records.proofs.case_in_buffers.Statement.{statement}
 use Rattle.replay_records.proofs.case_in_buffers.Tie as tie
 
 -- as many floats are lent for the run as it has words
 module _ (kind : Kind) (function : ℕ) (exponent : ℤ) (records floats : List ℕ) (wanted : ℕ) (words : List ℕ) (run left : List Float) (out : List ℕ) (r : Bool) where
-  by_length : (count : ℕ) → SFits w32 exponent → r ≡ sameRecorded kind function (to_z w32 (of_z w32 exponent)) records floats wanted words (length run) left out → count ≡ length run
-      → r ≡ sameRecorded kind function exponent records floats wanted words count left out
+  by_length : (count : ℕ) → SFits w32 exponent → r ≡ same_recorded kind function (to_z w32 (of_z w32 exponent)) records floats wanted words (length run) left out → count ≡ length run
+      → r ≡ same_recorded kind function exponent records floats wanted words count left out
   by_length count fits e h = rw (h) (rw (to_z-of_z w32 exponent fits) at e)
 
-pub case-in-buffers-spec : {M : Type 1} → statement M
-case-in-buffers-spec =
+pub case_in_buffers_spec : {M : Type 1} → statement M
+case_in_buffers_spec =
     tie.close
     (tie.spec
     (λ c. search rules)

@@ -4,8 +4,8 @@ use Rattle.replay_records.proofs.Answering.{recorded}
 use Rattle.replay_records.proofs.case_of.Statement.{statement}
 use Rattle.replay_records.proofs.case_of.Tie as tie
 
-pub case-of-spec : {M : Type 1} → statement M
-case-of-spec =
+pub case_of_spec : {M : Type 1} → statement M
+case_of_spec =
     tie.close
     (tie.spec
     (λ c. search rules) (λ c κs. search rules) (λ c. search rules) (λ c κs. search rules) (λ c. search rules) (λ c. search rules) (λ c. search rules)

@@ -14,8 +14,8 @@ decreases-loop kind file buffer₀ pool run₀ function₀ count₀ buffer run f
 loop-less : tie.Need-loop-smaller invariant-loop decreases-loop
 loop-less c = falls _ _ _ (search rules) c.after.ensures
 
-pub cases-spec : {M : Type 1} → statement M
-cases-spec =
+pub cases_spec : {M : Type 1} → statement M
+cases_spec =
     tie.close
     (tie.spec invariant-loop decreases-loop
     (λ c κs. search rules) (λ c. search rules) (λ c κs. search rules) (λ c κs. search rules) (λ c κs. search rules)

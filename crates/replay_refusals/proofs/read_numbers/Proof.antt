@@ -10,8 +10,8 @@ invariant-loop file buffer₀ numbers₀ here₀ whole₀ i₀ buffer numbers he
 abbrev decreases-loop : tie.decreases-loop
 decreases-loop file buffer₀ numbers₀ here₀ whole₀ i₀ buffer numbers here whole i = 16 - i
 
-pub read-numbers-spec : {M : Type 1} → statement M
-read-numbers-spec =
+pub read_numbers_spec : {M : Type 1} → statement M
+read_numbers_spec =
     tie.close
     (tie.spec invariant-loop decreases-loop
     (λ c. search rules) (λ c κs. search rules) (λ c. search rules) (λ c. search rules) (λ c. search rules)

@@ -7,7 +7,7 @@ use Rattle.replay_root.proofs.same_root.Tie as tie
 returns : tie.Need-returns
 returns c = rw c.word-of-float.ensures
 
-pub same-root-spec : {M : Type 1} → statement M
-same-root-spec = tie.close (tie.spec
+pub same_root_spec : {M : Type 1} → statement M
+same_root_spec = tie.close (tie.spec
     (λ c κs. search rules)
     returns)

@@ -16,8 +16,8 @@ returns-2 c = (rw c.match.keys2, (search rules, search rules))
 returns-3 : tie.Need-returns-3
 returns-3 c = (rw (ne_eqb _ _ c.match.rest.0.1, ne_eqb _ _ c.match.rest.1), (search rules, search rules))
 
-pub answer-words-spec : {M : Type 1} → statement M
-answer-words-spec = tie.close (tie.spec
+pub answer_words_spec : {M : Type 1} → statement M
+answer_words_spec = tie.close (tie.spec
     (λ c. search rules)
     returns
     returns-2

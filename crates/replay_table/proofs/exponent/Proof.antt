@@ -7,7 +7,7 @@ use mir.Syntax.{w32}
 use mir.Val.{to_z}
 use mir.ValLaws.{to_z-of_z}
 use borrow.Author.Tests.{le-leb, lt-leb}
-use Rattle.replay_table.specs.Table.{exponentOf}
+use Rattle.replay_table.specs.Table.{exponent_of}
 use borrow.Author.Rules.{rules}
 use Rattle.replay_table.proofs.exponent.Statement.{statement}
 use Rattle.replay_table.proofs.exponent.Tie as tie
@@ -23,21 +23,21 @@ lower b h =
 
 -- near 0
 returns : tie.Need-returns
-unfolding exponentOf
+unfolding exponent_of
 returns c = rw (le-leb _ _ c.if1.true) (upper _ c.if1.true)
 
 -- near 2^64
 returns-2 : tie.Need-returns-2
-unfolding exponentOf
+unfolding exponent_of
 returns-2 c = rw (lt-leb _ _ c.before.if1.false, le-leb _ _ c.if2.true) (lower _ c.if2.true)
 
 -- between the two
 returns-3 : tie.Need-returns-3
-unfolding exponentOf
+unfolding exponent_of
 returns-3 c = rw (lt-leb _ _ c.before.if1.false, lt-leb _ _ c.if2.false)
 
-pub exponent-spec : {M : Type 1} → statement M
-exponent-spec =
+pub exponent_spec : {M : Type 1} → statement M
+exponent_spec =
     tie.close (tie.spec
     (λ c. search rules)
     returns

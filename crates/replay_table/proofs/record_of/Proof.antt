@@ -5,9 +5,9 @@ use mathlib.Core.List.{List}
 use lib.ListN.{length, get_or, set, length-set}
 use native.Mathlib.Omega.{arith}
 use Rattle.algebra.specs.Flat.{tabulate}
-use Rattle.algebra.proofs.Flat.{tabulate-length, tabulate-at}
-use Rattle.floats.proofs.Fill.{Filled, filled_more, filled-all}
-use Rattle.replay_table.specs.Table.{recordOf}
+use Rattle.algebra.proofs.Flat.{tabulate_length, tabulate_at}
+use Rattle.floats.proofs.Fill.{Filled, filled_more, filled_all}
+use Rattle.replay_table.specs.Table.{record_of}
 use borrow.Author.Rules.{rules}
 use Rattle.replay_table.proofs.record_of.Statement.{statement}
 use Rattle.replay_table.proofs.record_of.Tie as tie
@@ -22,12 +22,12 @@ turn : (pool : List ℕ) (places : ℕ) (old out : List ℕ) (i : ℕ) → lengt
 turn pool places old out i e f h = (simp length-set e, rw e (filled_more 0 (placed pool places (length old)) out i h f))
 
 -- all are passed
-whole : (pool : List ℕ) (places : ℕ) (old out : List ℕ) (i : ℕ) → length out ≡ length old → Filled 0 (placed pool places (length old)) out i → length out ≤ i → out ≡ recordOf pool places (length old)
-unfolding recordOf
+whole : (pool : List ℕ) (places : ℕ) (old out : List ℕ) (i : ℕ) → length out ≡ length old → Filled 0 (placed pool places (length old)) out i → length out ≤ i → out ≡ record_of pool places (length old)
+unfolding record_of
 whole pool places old out i e f h =
     let g : ℕ → ℕ = placed pool places (length old) in
-    filled-all 0 g out (tabulate g (length old) 0) i h (e ∙ sym (tabulate-length g (length old) 0)) f
-    (λ k lt. tabulate-at g (length old) 0 k 0 (omega arith) ∙ ap g (omega arith))
+    filled_all 0 g out (tabulate g (length old) 0) i h (e ∙ sym (tabulate_length g (length old) 0)) f
+    (λ k lt. tabulate_at g (length old) 0 k 0 (omega arith) ∙ ap g (omega arith))
 
 abbrev invariant-loop : tie.invariant-loop
 invariant-loop pool places out₀ i₀ out i = (length out ≡ length out₀) × Filled 0 (placed pool places (length out₀)) out i
@@ -50,8 +50,8 @@ loop-again c =
 returns : tie.Need-returns invariant-loop decreases-loop
 returns c = whole _ _ c.before.before.args.out.now _ _ c.before.loop.invariant.0 c.before.loop.invariant.1 c.loop-test.false
 
-pub record-of-spec : {M : Type 1} → statement M
-record-of-spec =
+pub record_of_spec : {M : Type 1} → statement M
+record_of_spec =
     tie.close
     (tie.spec invariant-loop decreases-loop
     loop-holds

@@ -16,8 +16,8 @@ returns-2 : tie.Need-returns-2
 unfolding shape_of
 returns-2 c = refl
 
-pub shape-of-spec : {M : Type 1} → statement M
-shape-of-spec = tie.close (tie.spec
+pub shape_of_spec : {M : Type 1} → statement M
+shape_of_spec = tie.close (tie.spec
     returns
     (λ c. search rules) (λ c. search rules)
     returns-2)

@@ -16,8 +16,8 @@ returns-2 c = rw c.match.keys2
 returns-3 : tie.Need-returns-3
 returns-3 c = rw (ne_eqb _ _ c.match.rest.0.1, ne_eqb _ _ c.match.rest.1)
 
-pub truth-spec : {M : Type 1} → statement M
-truth-spec = tie.close (tie.spec
+pub truth_spec : {M : Type 1} → statement M
+truth_spec = tie.close (tie.spec
     returns
     returns-2
     returns-3)

@@ -1,14 +1,14 @@
 -- Each arm is the line beside its number, the last arm the next part of the table (Numbered).
 use borrow.Author.Rules.{rules}
-use Rattle.calls.specs.Table.{compositions, compositionLine, predicateLine}
-use Rattle.calls.proofs.Numbered.{numbered-floats, none-floats}
+use Rattle.calls.specs.Table.{compositions, composition_line, predicate_line}
+use Rattle.calls.proofs.Numbered.{numbered_floats, none_floats}
 use Rattle.calls.proofs.table.composition_line.Statement.{statement}
 use Rattle.calls.proofs.table.composition_line.Tie as tie
 
-pub composition-line-spec : {M : Type 1} → statement M
-composition-line-spec =
+pub composition_line_spec : {M : Type 1} → statement M
+composition_line_spec =
     tie.close
     (tie.spec
     (λ c κs. search rules) (λ c κs. search rules) (λ c κs. search rules)
-    (λ c. search (rules, numbered-floats compositionLine)) (λ c. search (rules, numbered-floats compositionLine))
-    (λ c. search (rules, none-floats compositions (λ n a b. predicateLine n))))
+    (λ c. search (rules, numbered_floats composition_line)) (λ c. search (rules, numbered_floats composition_line))
+    (λ c. search (rules, none_floats compositions (λ n a b. predicate_line n))))

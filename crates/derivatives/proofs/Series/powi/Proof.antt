@@ -1,7 +1,7 @@
 -- An exponent within 1024 of zero: every product of it fits an i32, and is read back from its bits as it is (Falling).
 use borrow.Author.Rules.{rules}
-use Rattle.derivatives.specs.Series.{powiSeries}
-use Rattle.derivatives.proofs.Falling.{one_less_fits, two-less-fits, second_fits, third-fits, exp-back, one-less-back, two-less-back, second_back, third_back}
+use Rattle.derivatives.specs.Series.{powi_series}
+use Rattle.derivatives.proofs.Falling.{one_less_fits, two_less_fits, second_fits, third_fits, exp_back, one_less_back, two_less_back, second_back, third_back}
 use Rattle.derivatives.proofs.Series.powi.Statement.{statement}
 use Rattle.derivatives.proofs.Series.powi.Tie as tie
 
@@ -10,24 +10,24 @@ third : tie.Need-overflow-mul-f3-2
 third c =
     let e = c.before.before.args.exp in
     let h = c.before.before.requires in
-    rw (exp-back e h, one-less-back e h, second_back e h, two-less-back e h) (third-fits e h)
+    rw (exp_back e h, one_less_back e h, second_back e h, two_less_back e h) (third_fits e h)
 
 -- what is read back of each product is the whole number of the rule
 returns : tie.Need-returns
-unfolding powiSeries
+unfolding powi_series
 returns c =
     let e = c.before.before.before.args.exp in
     let h = c.before.before.before.requires in
-    rw (exp-back e h, one-less-back e h, second_back e h, two-less-back e h, third_back e h)
+    rw (exp_back e h, one_less_back e h, second_back e h, two_less_back e h, third_back e h)
 
-pub powi-spec : {M : Type 1} → statement M
-powi-spec =
+pub powi_spec : {M : Type 1} → statement M
+powi_spec =
     tie.close
     (tie.spec
     (λ c. search rules)
-    (λ c. search (rules, exp-back, one_less_fits)) (λ c. search (rules, exp-back, one-less-back, second_fits))
+    (λ c. search (rules, exp_back, one_less_fits)) (λ c. search (rules, exp_back, one_less_back, second_fits))
     (λ c. search rules)
-    (λ c. search (rules, exp-back, one_less_fits)) (λ c. search (rules, exp-back, one-less-back, second_fits)) (λ c. search (rules, exp-back, two-less-fits))
+    (λ c. search (rules, exp_back, one_less_fits)) (λ c. search (rules, exp_back, one_less_back, second_fits)) (λ c. search (rules, exp_back, two_less_fits))
     third
     (λ c. search rules)
     returns)

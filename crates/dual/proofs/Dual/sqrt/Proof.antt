@@ -3,6 +3,6 @@ use borrow.Author.Rules.{rules}
 use Rattle.dual.proofs.Dual.sqrt.Statement.{statement}
 use Rattle.dual.proofs.Dual.sqrt.Tie as tie
 
-pub sqrt-spec : {M : Type 1} → statement M
-sqrt-spec = tie.close (tie.spec
+pub sqrt_spec : {M : Type 1} → statement M
+sqrt_spec = tie.close (tie.spec
     (λ c κs. search rules) (λ c κs. search rules) (λ c. cc))

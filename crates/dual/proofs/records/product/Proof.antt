@@ -3,24 +3,24 @@ use borrow.Author.Rules.{rules}
 use native.Mathlib.Omega.{arith}
 use Prim.Native.Nat.{◌-◌}
 use Rattle.algebra.specs.Algebra.{one_of}
-use Rattle.algebra.proofs.Joins.{Joining, joining-starts, joining-turn, product-refused, product-ends}
-use Rattle.dual.specs.Rules.{dualMul, dualAlgebra, dualLayout}
-use Rattle.dual.proofs.Flat.{dual-laws}
+use Rattle.algebra.proofs.Joins.{Joining, joining_starts, joining_turn, product_refused, product_ends}
+use Rattle.dual.specs.Rules.{dual_mul, dual_algebra, dual_layout}
+use Rattle.dual.proofs.Flat.{dual_laws}
 use Rattle.dual.proofs.records.product.Statement.{statement}
 use Rattle.dual.proofs.records.product.Tie as tie
 
 abbrev invariant-loop : tie.invariant-loop
-invariant-loop floats count acc₀ p₀ acc p = Joining dualLayout dualMul (one_of dualAlgebra) floats acc p
+invariant-loop floats count acc₀ p₀ acc p = Joining dual_layout dual_mul (one_of dual_algebra) floats acc p
 
 abbrev decreases-loop : tie.decreases-loop
 decreases-loop floats count acc₀ p₀ acc p = count - p
 
-pub product-spec : {M : Type 1} → statement M
-product-spec =
+pub product_spec : {M : Type 1} → statement M
+product_spec =
     tie.close
     (tie.spec invariant-loop decreases-loop
-    (λ c. search (rules, product-refused dual-laws))
-    (λ c. joining-starts dual-laws)
+    (λ c. search (rules, product_refused dual_laws))
+    (λ c. joining_starts dual_laws)
     (λ c κs. omega arith) (λ c κs. search rules) (λ c. omega arith) (λ c. omega arith)
-    (λ c. search (rules, joining-turn dual-laws))
-    (λ c. search (rules, product-ends dual-laws)))
+    (λ c. search (rules, joining_turn dual_laws))
+    (λ c. search (rules, product_ends dual_laws)))

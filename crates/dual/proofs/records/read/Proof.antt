@@ -1,7 +1,7 @@
 -- The floats that are read are the parts of record `at`: one law over any record (Cells).
 use borrow.Author.Rules.{rules}
-use Rattle.algebra.proofs.Cells.{read-record}
-use Rattle.dual.proofs.Flat.{dual-laws}
+use Rattle.algebra.proofs.Cells.{read_record}
+use Rattle.dual.proofs.Flat.{dual_laws}
 use Rattle.dual.proofs.records.read.Statement.{statement}
 use Rattle.dual.proofs.records.read.Tie as tie
 
@@ -10,4 +10,4 @@ read_spec =
     tie.close
     (tie.spec
     (λ c. search rules) (λ c. search rules) (λ c. search rules) (λ c. search rules) (λ c. search rules) (λ c. search rules)
-    (λ c. search (rules, read-record dual-laws)))
+    (λ c. search (rules, read_record dual_laws)))

@@ -1,7 +1,7 @@
 -- The floats that are stored are the parts of x at record `at`: one law over any record (Cells).
 use borrow.Author.Rules.{rules}
-use Rattle.algebra.proofs.Cells.{write-record}
-use Rattle.dual.proofs.Flat.{dual-laws}
+use Rattle.algebra.proofs.Cells.{write_record}
+use Rattle.dual.proofs.Flat.{dual_laws}
 use Rattle.dual.proofs.records.write.Statement.{statement}
 use Rattle.dual.proofs.records.write.Tie as tie
 
@@ -11,4 +11,4 @@ write_spec =
     (tie.spec
     (λ c. search rules) (λ c. search rules) (λ c. search rules) (λ c. search rules) (λ c. search rules) (λ c. search rules)
     (λ c. search rules)
-    (λ c. search (rules, write-record dual-laws)))
+    (λ c. search (rules, write_record dual_laws)))

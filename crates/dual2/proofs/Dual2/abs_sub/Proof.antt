@@ -1,14 +1,14 @@
 -- Each way through the tests is a case of the definition: one law a case, over any record (Signs).
 use borrow.Author.Rules.{rules}
-use Rattle.derivatives.proofs.Signs.{abs-sub-above, abs-sub-else}
-use Rattle.dual2.specs.Rules.{dual2Algebra}
+use Rattle.derivatives.proofs.Signs.{abs_sub_above, abs_sub_else}
+use Rattle.dual2.specs.Rules.{dual2_algebra}
 use Rattle.dual2.proofs.Dual2.abs_sub.Statement.{statement}
 use Rattle.dual2.proofs.Dual2.abs_sub.Tie as tie
 
-pub abs-sub-spec : {M : Type 1} → statement M
-abs-sub-spec =
+pub abs_sub_spec : {M : Type 1} → statement M
+abs_sub_spec =
     tie.close
     (tie.spec
     (λ c κs. search rules)
-    (λ c. search (rules, abs-sub-above dual2Algebra))
-    (λ c. search (rules, abs-sub-else dual2Algebra)))
+    (λ c. search (rules, abs_sub_above dual2_algebra))
+    (λ c. search (rules, abs_sub_else dual2_algebra)))

@@ -3,6 +3,6 @@ use borrow.Author.Rules.{rules}
 use Rattle.dual2.proofs.Dual2.apply.Statement.{statement}
 use Rattle.dual2.proofs.Dual2.apply.Tie as tie
 
-pub apply-spec : {M : Type 1} → statement M
-apply-spec = tie.close (tie.spec
+pub apply_spec : {M : Type 1} → statement M
+apply_spec = tie.close (tie.spec
     (λ c κs. search rules) (λ c κs. search rules) (λ c. cc))

@@ -3,8 +3,8 @@ use borrow.Author.Rules.{rules}
 use Rattle.dual2.proofs.Dual2.bessel_j2.Statement.{statement}
 use Rattle.dual2.proofs.Dual2.bessel_j2.Tie as tie
 
-pub bessel-j2-spec : {M : Type 1} → statement M
-bessel-j2-spec =
+pub bessel_j2_spec : {M : Type 1} → statement M
+bessel_j2_spec =
     tie.close
     (tie.spec
     (λ c κs. search rules) (λ c κs. search rules) (λ c κs. search rules) (λ c κs. search rules) (λ c κs. search rules)

@@ -3,6 +3,6 @@ use borrow.Author.Rules.{rules}
 use Rattle.dual2.proofs.Dual2.is_positive.Statement.{statement}
 use Rattle.dual2.proofs.Dual2.is_positive.Tie as tie
 
-pub is-positive-spec : {M : Type 1} → statement M
-is-positive-spec = tie.close (tie.spec
+pub is_positive_spec : {M : Type 1} → statement M
+is_positive_spec = tie.close (tie.spec
     (λ c κs. search rules) (λ c. cc))

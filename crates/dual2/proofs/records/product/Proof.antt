@@ -3,24 +3,24 @@ use borrow.Author.Rules.{rules}
 use native.Mathlib.Omega.{arith}
 use Prim.Native.Nat.{◌-◌}
 use Rattle.algebra.specs.Algebra.{one_of}
-use Rattle.algebra.proofs.Joins.{Joining, joining-starts, joining-turn, product-refused, product-ends}
-use Rattle.dual2.specs.Rules.{dual2Mul, dual2Algebra, dual2Layout}
-use Rattle.dual2.proofs.Flat.{dual2-laws}
+use Rattle.algebra.proofs.Joins.{Joining, joining_starts, joining_turn, product_refused, product_ends}
+use Rattle.dual2.specs.Rules.{dual2_mul, dual2_algebra, dual2_layout}
+use Rattle.dual2.proofs.Flat.{dual2_laws}
 use Rattle.dual2.proofs.records.product.Statement.{statement}
 use Rattle.dual2.proofs.records.product.Tie as tie
 
 abbrev invariant-loop : tie.invariant-loop
-invariant-loop floats count acc₀ p₀ acc p = Joining dual2Layout dual2Mul (one_of dual2Algebra) floats acc p
+invariant-loop floats count acc₀ p₀ acc p = Joining dual2_layout dual2_mul (one_of dual2_algebra) floats acc p
 
 abbrev decreases-loop : tie.decreases-loop
 decreases-loop floats count acc₀ p₀ acc p = count - p
 
-pub product-spec : {M : Type 1} → statement M
-product-spec =
+pub product_spec : {M : Type 1} → statement M
+product_spec =
     tie.close
     (tie.spec invariant-loop decreases-loop
-    (λ c. search (rules, product-refused dual2-laws))
-    (λ c. joining-starts dual2-laws)
+    (λ c. search (rules, product_refused dual2_laws))
+    (λ c. joining_starts dual2_laws)
     (λ c κs. omega arith) (λ c κs. search rules) (λ c. omega arith) (λ c. omega arith)
-    (λ c. search (rules, joining-turn dual2-laws))
-    (λ c. search (rules, product-ends dual2-laws)))
+    (λ c. search (rules, joining_turn dual2_laws))
+    (λ c. search (rules, product_ends dual2_laws)))

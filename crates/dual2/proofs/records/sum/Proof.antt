@@ -3,24 +3,24 @@ use borrow.Author.Rules.{rules}
 use native.Mathlib.Omega.{arith}
 use Prim.Native.Nat.{◌-◌}
 use Rattle.algebra.specs.Algebra.{zero_of}
-use Rattle.algebra.proofs.Joins.{Joining, joining-starts, joining-turn, sum-refused, sum-ends}
-use Rattle.dual2.specs.Rules.{dual2Add, dual2Algebra, dual2Layout}
-use Rattle.dual2.proofs.Flat.{dual2-laws}
+use Rattle.algebra.proofs.Joins.{Joining, joining_starts, joining_turn, sum_refused, sum_ends}
+use Rattle.dual2.specs.Rules.{dual2_add, dual2_algebra, dual2_layout}
+use Rattle.dual2.proofs.Flat.{dual2_laws}
 use Rattle.dual2.proofs.records.sum.Statement.{statement}
 use Rattle.dual2.proofs.records.sum.Tie as tie
 
 abbrev invariant-loop : tie.invariant-loop
-invariant-loop floats count acc₀ p₀ acc p = Joining dual2Layout dual2Add (zero_of dual2Algebra) floats acc p
+invariant-loop floats count acc₀ p₀ acc p = Joining dual2_layout dual2_add (zero_of dual2_algebra) floats acc p
 
 abbrev decreases-loop : tie.decreases-loop
 decreases-loop floats count acc₀ p₀ acc p = count - p
 
-pub sum-spec : {M : Type 1} → statement M
-sum-spec =
+pub sum_spec : {M : Type 1} → statement M
+sum_spec =
     tie.close
     (tie.spec invariant-loop decreases-loop
-    (λ c. search (rules, sum-refused dual2-laws))
-    (λ c. joining-starts dual2-laws)
+    (λ c. search (rules, sum_refused dual2_laws))
+    (λ c. joining_starts dual2_laws)
     (λ c κs. omega arith) (λ c κs. search rules) (λ c. omega arith) (λ c. omega arith)
-    (λ c. search (rules, joining-turn dual2-laws))
-    (λ c. search (rules, sum-ends dual2-laws)))
+    (λ c. search (rules, joining_turn dual2_laws))
+    (λ c. search (rules, sum_ends dual2_laws)))

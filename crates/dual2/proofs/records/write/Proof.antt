@@ -2,8 +2,8 @@
 use borrow.Author.Rules.{rules}
 use native.Mathlib.Omega.{arith}
 use lib.ListN.{length-set}
-use Rattle.algebra.proofs.Cells.{write-record}
-use Rattle.dual2.proofs.Flat.{dual2-laws}
+use Rattle.algebra.proofs.Cells.{write_record}
+use Rattle.dual2.proofs.Flat.{dual2_laws}
 use Rattle.dual2.proofs.records.write.Statement.{statement}
 use Rattle.dual2.proofs.records.write.Tie as tie
 
@@ -13,4 +13,4 @@ write_spec =
     (tie.spec
     (λ c. search rules) (λ c. search rules) (λ c. search rules) (λ c. search rules) (λ c. search rules)
     (λ c. simp length-set (omega arith)) (λ c. search rules) (λ c. search rules) (λ c. search rules) (λ c. search rules)
-    (λ c. search (rules, write-record dual2-laws)))
+    (λ c. search (rules, write_record dual2_laws)))

@@ -1,16 +1,16 @@
 -- Each way through the tests is a case of the definition: one law a case, over any record (Signs).
 use borrow.Author.Rules.{rules}
-use Rattle.derivatives.proofs.Signs.{signum-zero, signum-negative, signum-positive}
-use Rattle.dual3.specs.Rules.{dual3Algebra}
+use Rattle.derivatives.proofs.Signs.{signum_zero, signum_negative, signum_positive}
+use Rattle.dual3.specs.Rules.{dual3_algebra}
 use Rattle.dual3.proofs.Dual3.signum.Statement.{statement}
 use Rattle.dual3.proofs.Dual3.signum.Tie as tie
 
-pub signum-spec : {M : Type 1} → statement M
-signum-spec =
+pub signum_spec : {M : Type 1} → statement M
+signum_spec =
     tie.close
     (tie.spec
     (λ c κs. search rules)
-    (λ c. search (rules, signum-zero dual3Algebra))
+    (λ c. search (rules, signum_zero dual3_algebra))
     (λ c κs. search rules)
-    (λ c. search (rules, signum-negative dual3Algebra))
-    (λ c. search (rules, signum-positive dual3Algebra)))
+    (λ c. search (rules, signum_negative dual3_algebra))
+    (λ c. search (rules, signum_positive dual3_algebra)))

@@ -3,24 +3,24 @@ use borrow.Author.Rules.{rules}
 use native.Mathlib.Omega.{arith}
 use Prim.Native.Nat.{◌-◌}
 use Rattle.algebra.specs.Algebra.{zero_of}
-use Rattle.algebra.proofs.Joins.{Joining, joining-starts, joining-turn, sum-refused, sum-ends}
-use Rattle.dual3.specs.Rules.{dual3Add, dual3Algebra, dual3Layout}
-use Rattle.dual3.proofs.Flat.{dual3-laws}
+use Rattle.algebra.proofs.Joins.{Joining, joining_starts, joining_turn, sum_refused, sum_ends}
+use Rattle.dual3.specs.Rules.{dual3_add, dual3_algebra, dual3_layout}
+use Rattle.dual3.proofs.Flat.{dual3_laws}
 use Rattle.dual3.proofs.records.sum.Statement.{statement}
 use Rattle.dual3.proofs.records.sum.Tie as tie
 
 abbrev invariant-loop : tie.invariant-loop
-invariant-loop floats count acc₀ p₀ acc p = Joining dual3Layout dual3Add (zero_of dual3Algebra) floats acc p
+invariant-loop floats count acc₀ p₀ acc p = Joining dual3_layout dual3_add (zero_of dual3_algebra) floats acc p
 
 abbrev decreases-loop : tie.decreases-loop
 decreases-loop floats count acc₀ p₀ acc p = count - p
 
-pub sum-spec : {M : Type 1} → statement M
-sum-spec =
+pub sum_spec : {M : Type 1} → statement M
+sum_spec =
     tie.close
     (tie.spec invariant-loop decreases-loop
-    (λ c. search (rules, sum-refused dual3-laws))
-    (λ c. joining-starts dual3-laws)
+    (λ c. search (rules, sum_refused dual3_laws))
+    (λ c. joining_starts dual3_laws)
     (λ c κs. omega arith) (λ c κs. search rules) (λ c. omega arith) (λ c. omega arith)
-    (λ c. search (rules, joining-turn dual3-laws))
-    (λ c. search (rules, sum-ends dual3-laws)))
+    (λ c. search (rules, joining_turn dual3_laws))
+    (λ c. search (rules, sum_ends dual3_laws)))

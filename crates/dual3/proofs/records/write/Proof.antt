@@ -2,8 +2,8 @@
 use borrow.Author.Rules.{rules}
 use native.Mathlib.Omega.{arith}
 use lib.ListN.{length-set}
-use Rattle.algebra.proofs.Cells.{write-record}
-use Rattle.dual3.proofs.Flat.{dual3-laws}
+use Rattle.algebra.proofs.Cells.{write_record}
+use Rattle.dual3.proofs.Flat.{dual3_laws}
 use Rattle.dual3.proofs.records.write.Statement.{statement}
 use Rattle.dual3.proofs.records.write.Tie as tie
 
@@ -14,4 +14,4 @@ write_spec =
     (λ c. search rules) (λ c. search rules) (λ c. search rules) (λ c. search rules) (λ c. search rules)
     (λ c. simp length-set (omega arith)) (λ c. search rules) (λ c. search rules) (λ c. simp length-set (omega arith))
     (λ c. search rules) (λ c. search rules) (λ c. search rules) (λ c. search rules)
-    (λ c. search (rules, write-record dual3-laws)))
+    (λ c. search (rules, write_record dual3_laws)))

@@ -4,8 +4,8 @@ use Rattle.refusals.proofs.FirstRefusal.{tests}
 use Rattle.dualrun_text.proofs.lu.line_refusal.Statement.{statement}
 use Rattle.dualrun_text.proofs.lu.line_refusal.Tie as tie
 
-pub line-refusal-spec : {M : Type 1} → statement M
-line-refusal-spec =
+pub line_refusal_spec : {M : Type 1} → statement M
+line_refusal_spec =
     tie.close
     (tie.spec
     (λ c. search (rules, tests))

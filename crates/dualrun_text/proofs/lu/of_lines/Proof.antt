@@ -1,15 +1,15 @@
 -- Lines that are not as they should be are unreadable; the floats of good ones go to the entry.
 use borrow.Author.Rules.{rules}
-use Rattle.dualrun_text.proofs.Commands.{lu-unread, lu-read}
+use Rattle.dualrun_text.proofs.Commands.{lu_unread, lu_read}
 use Rattle.dualrun_text.proofs.lu.of_lines.Statement.{statement}
 use Rattle.dualrun_text.proofs.lu.of_lines.Tie as tie
 
-pub of-lines-spec : {M : Type 1} → statement M
-of-lines-spec =
+pub of_lines_spec : {M : Type 1} → statement M
+of_lines_spec =
     tie.close
     (tie.spec
     (λ c κs. search rules) (λ c κs. search rules) (λ c. search rules) (λ c. search rules)
-    (λ c. search (rules, lu-unread))
+    (λ c. search (rules, lu_unread))
     (λ c κs. search rules) (λ c κs. search rules) (λ c. search rules) (λ c. search rules) (λ c. search rules)
     (λ c. search rules)
-    (λ c. search (rules, lu-read)))
+    (λ c. search (rules, lu_read)))

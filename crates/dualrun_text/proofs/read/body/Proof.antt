@@ -2,7 +2,7 @@
 use borrow.Author.Rules.{rules}
 use Prim.Native.Nat.{◌-◌}
 use lib.ListN.{length}
-use Rattle.dualrun_text.proofs.Words.{Reading, never, reading-none, reading-more, body-other-length, body-other-word, body-good, body-floats}
+use Rattle.dualrun_text.proofs.Words.{Reading, never, reading_none, reading_more, body_other_length, body_other_word, body_good, body_floats}
 use Rattle.dualrun_text.proofs.read.body.Statement.{statement}
 use Rattle.dualrun_text.proofs.read.body.Tie as tie
 
@@ -20,17 +20,17 @@ same_length c = let h = c.before.before.before.before.loop.invariant.size in sea
 same-length-2 : tie.Need-same-length-2 invariant-loop decreases-loop
 same-length-2 c = let h = c.before.loop.invariant.size in search rules
 
-pub body-spec : {M : Type 1} → statement M
-body-spec =
+pub body_spec : {M : Type 1} → statement M
+body_spec =
     tie.close
     (tie.spec invariant-loop decreases-loop
     (λ c. search rules) (λ c. search rules)
-    (λ c. search (rules, body-other-length, never))
-    (λ c. reading-none _ _ _)
+    (λ c. search (rules, body_other_length, never))
+    (λ c. reading_none _ _ _)
     (λ c κs. search rules) (λ c. search rules) (λ c. search rules)
     same_length
-    (λ c. search (rules, body-other-word, never))
+    (λ c. search (rules, body_other_word, never))
     (λ c κs. search rules) (λ c. search rules) (λ c. search rules) (λ c. search rules) (λ c. search rules)
-    (λ c. search (rules, reading-more))
+    (λ c. search (rules, reading_more))
     same-length-2
-    (λ c. search (rules, body-good, body-floats)))
+    (λ c. search (rules, body_good, body_floats)))

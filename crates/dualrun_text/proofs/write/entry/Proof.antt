@@ -1,6 +1,6 @@
 -- The first entry has no space before it, a later one has.
 use borrow.Author.Rules.{rules}
-use Rattle.dualrun_text.proofs.Lines.{first_entry, later-entry}
+use Rattle.dualrun_text.proofs.Lines.{first_entry, later_entry}
 use Rattle.dualrun_text.proofs.write.entry.Statement.{statement}
 use Rattle.dualrun_text.proofs.write.entry.Tie as tie
 
@@ -11,4 +11,4 @@ entry_spec =
     (λ c κs. search rules) (λ c. search rules)
     (λ c. search (rules, first_entry))
     (λ c κs. search rules) (λ c κs. search rules) (λ c. search rules)
-    (λ c. search (rules, later-entry)))
+    (λ c. search (rules, later_entry)))

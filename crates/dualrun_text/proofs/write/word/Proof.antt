@@ -4,8 +4,8 @@ use Rattle.dualrun_text.proofs.Lines.{word_line}
 use Rattle.dualrun_text.proofs.write.word.Statement.{statement}
 use Rattle.dualrun_text.proofs.write.word.Tie as tie
 
-pub word-spec : {M : Type 1} → statement M
-word-spec =
+pub word_spec : {M : Type 1} → statement M
+word_spec =
     tie.close
     (tie.spec
     (λ c κs. search rules) (λ c κs. search rules) (λ c. search rules)

@@ -1,12 +1,12 @@
 -- What the entry left crosses: its number, the swap count or the column, both buffers.
 use borrow.Author.Rules.{rules}
-use Rattle.exports.proofs.Crossed.{lu-crossed}
+use Rattle.exports.proofs.Crossed.{lu_crossed}
 use Rattle.exports.proofs.hyperdual_linalg.evindrast_hyperdual_lu.Statement.{statement}
 use Rattle.exports.proofs.hyperdual_linalg.evindrast_hyperdual_lu.Tie as tie
 
-pub evindrast-hyperdual-lu-spec : {M : Type 1} → statement M
-evindrast-hyperdual-lu-spec =
+pub evindrast_hyperdual_lu_spec : {M : Type 1} → statement M
+evindrast_hyperdual_lu_spec =
     tie.close
     (tie.spec
     (λ c κs. search rules) (λ c κs. search rules) (λ c. search rules) (λ c. search rules)
-    (λ c. search (rules, lu-crossed)))
+    (λ c. search (rules, lu_crossed)))

@@ -1,12 +1,12 @@
 -- What the entry left crosses: its number and the result.
 use borrow.Author.Rules.{rules}
-use Rattle.exports.proofs.Crossed.{solve-crossed}
+use Rattle.exports.proofs.Crossed.{solve_crossed}
 use Rattle.exports.proofs.linalg.evindrast_inverse.Statement.{statement}
 use Rattle.exports.proofs.linalg.evindrast_inverse.Tie as tie
 
-pub evindrast-inverse-spec : {M : Type 1} → statement M
-evindrast-inverse-spec =
+pub evindrast_inverse_spec : {M : Type 1} → statement M
+evindrast_inverse_spec =
     tie.close
     (tie.spec
     (λ c κs. search rules) (λ c κs. search rules) (λ c. search rules)
-    (λ c. search (rules, solve-crossed)))
+    (λ c. search (rules, solve_crossed)))

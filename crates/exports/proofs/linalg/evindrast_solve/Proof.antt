@@ -1,12 +1,12 @@
 -- What the entry left crosses: its number and the result.
 use borrow.Author.Rules.{rules}
-use Rattle.exports.proofs.Crossed.{solve-crossed}
+use Rattle.exports.proofs.Crossed.{solve_crossed}
 use Rattle.exports.proofs.linalg.evindrast_solve.Statement.{statement}
 use Rattle.exports.proofs.linalg.evindrast_solve.Tie as tie
 
-pub evindrast-solve-spec : {M : Type 1} → statement M
-evindrast-solve-spec =
+pub evindrast_solve_spec : {M : Type 1} → statement M
+evindrast_solve_spec =
     tie.close
     (tie.spec
     (λ c κs. search rules) (λ c κs. search rules) (λ c. search rules)
-    (λ c. search (rules, solve-crossed)))
+    (λ c. search (rules, solve_crossed)))

@@ -1,12 +1,12 @@
 -- What the entry left crosses, with the number and the count of its answer.
 use borrow.Author.Rules.{rules}
-use Rattle.exports.proofs.Crossed.{size-crossed}
+use Rattle.exports.proofs.Crossed.{size_crossed}
 use Rattle.exports.proofs.matrix_market.evindrast_market_size.Statement.{statement}
 use Rattle.exports.proofs.matrix_market.evindrast_market_size.Tie as tie
 
-pub evindrast-market-size-spec : {M : Type 1} → statement M
-evindrast-market-size-spec =
+pub evindrast_market_size_spec : {M : Type 1} → statement M
+evindrast_market_size_spec =
     tie.close
     (tie.spec
     (λ c κs. search rules) (λ c κs. search rules)
-    (λ c. search (rules, size-crossed)))
+    (λ c. search (rules, size_crossed)))

@@ -1,24 +1,24 @@
 -- Each arm of the match is a case of the definition's kinds: one law an arm, whatever the call leaves (KindArms).
 use borrow.Author.Rules.{rules}
-use Rattle.exports.specs.ByKind.{productLeft}
-use Rattle.exports.proofs.KindArms.{kind-dual, kind-dual2, kind-dual3, kind-hyperdual, kind-hyperhyperdual, kind-none}
+use Rattle.exports.specs.ByKind.{product_left}
+use Rattle.exports.proofs.KindArms.{kind_dual, kind_dual2, kind_dual3, kind_hyperdual, kind_hyperhyperdual, kind_none}
 use Rattle.exports.proofs.record.evindrast_product.Statement.{statement}
 use Rattle.exports.proofs.record.evindrast_product.Tie as tie
 
-pub evindrast-product-spec : {M : Type 1} → statement M
-unfolding productLeft
-evindrast-product-spec =
+pub evindrast_product_spec : {M : Type 1} → statement M
+unfolding product_left
+evindrast_product_spec =
     tie.close
     (tie.spec
     (λ c κs. search rules) (λ c κs. search rules) (λ c κs. search rules) (λ c κs. search rules) (λ c κs. search rules)
     (λ c. search rules)
-    (λ c. search (rules, kind-dual))
+    (λ c. search (rules, kind_dual))
     (λ c. search rules)
-    (λ c. search (rules, kind-dual2))
+    (λ c. search (rules, kind_dual2))
     (λ c. search rules)
-    (λ c. search (rules, kind-dual3))
+    (λ c. search (rules, kind_dual3))
     (λ c. search rules)
-    (λ c. search (rules, kind-hyperdual))
+    (λ c. search (rules, kind_hyperdual))
     (λ c. search rules)
-    (λ c. search (rules, kind-hyperhyperdual))
-    (λ c. search (rules, kind-none)))
+    (λ c. search (rules, kind_hyperhyperdual))
+    (λ c. search (rules, kind_none)))

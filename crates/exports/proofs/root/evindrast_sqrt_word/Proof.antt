@@ -7,8 +7,8 @@ use Rattle.exports.proofs.root.evindrast_sqrt_word.Tie as tie
 returns : tie.Need-returns
 returns c = rw (c.word-of-float.ensures, c.before.sqrt.ensures, c.before.before.Float-of_Word.ensures)
 
-pub evindrast-sqrt-word-spec : {M : Type 1} → statement M
-evindrast-sqrt-word-spec =
+pub evindrast_sqrt_word_spec : {M : Type 1} → statement M
+evindrast_sqrt_word_spec =
     tie.close (tie.spec
     (λ c κs. search rules) (λ c κs. search rules) (λ c κs. search rules)
     returns)

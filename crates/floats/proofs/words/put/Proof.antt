@@ -6,9 +6,9 @@ use lib.ListN.{length, get_or, length-map, get_or-map}
 use lib.Ieee.{Float, binary64, nan, to_bits}
 use native.Mathlib.Omega.{arith}
 use borrow.Author.Rules.{rules}
-use Rattle.algebra.proofs.Inside.{getD-inside}
+use Rattle.algebra.proofs.Inside.{get_or-inside}
 use Rattle.floats.specs.Words.{words_of}
-use Rattle.floats.proofs.Fill.{Filling, filling-none, filling-more, filling-list}
+use Rattle.floats.proofs.Fill.{Filling, filling_none, filling_more, filling_list}
 use Rattle.floats.proofs.words.put.Statement.{statement}
 use Rattle.floats.proofs.words.put.Tie as tie
 
@@ -24,19 +24,19 @@ decreases-loop parts out₀ i₀ out i = length out₀ - i
 
 -- the word of the part at i
 again : tie.Need-loop-preserved invariant-loop decreases-loop
-again c = filling-more _ _ _ _ _ c.before.before.before.loop.invariant _ (search rules) c.word-of-float.ensures
+again c = filling_more _ _ _ _ _ c.before.before.before.loop.invariant _ (search rules) c.word-of-float.ensures
 
 -- the words of as many parts
 all_words : (parts : List Float) (m : ℕ) (out : List ℕ) (i : ℕ) → Filling 0 (word_at parts) m out i → m ≡ length parts → length out ≤ i → out ≡ words_of parts
 all_words parts m out i f e h =
-    filling-list 0 (word_at parts) m out i f (words_of parts) (simp length-map (omega arith))
-    (λ k lt. getD-inside (words_of parts) k 0 (to_bits binary64 nan) (simp length-map (omega arith)) ∙ get_or-map (to_bits binary64) parts k nan) h
+    filling_list 0 (word_at parts) m out i f (words_of parts) (simp length-map (omega arith))
+    (λ k lt. get_or-inside (words_of parts) k 0 (to_bits binary64 nan) (simp length-map (omega arith)) ∙ get_or-map (to_bits binary64) parts k nan) h
 
 pub put_spec : {M : Type 1} → statement M
 put_spec =
     tie.close
     (tie.spec invariant-loop decreases-loop
-    (λ c. filling-none _ _ _)
+    (λ c. filling_none _ _ _)
     (λ c. search rules) (λ c. omega (arith, c.before.before.loop.invariant.long)) (λ c κs. search rules) (λ c. search rules) (λ c. search rules)
     (λ c. search rules) (λ c. search rules)
     again

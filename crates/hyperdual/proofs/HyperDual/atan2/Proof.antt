@@ -3,6 +3,6 @@ use borrow.Author.Rules.{rules}
 use Rattle.hyperdual.proofs.HyperDual.atan2.Statement.{statement}
 use Rattle.hyperdual.proofs.HyperDual.atan2.Tie as tie
 
-pub atan2-spec : {M : Type 1} → statement M
-atan2-spec = tie.close (tie.spec
+pub atan2_spec : {M : Type 1} → statement M
+atan2_spec = tie.close (tie.spec
     (λ c κs. search rules) (λ c κs. search rules) (λ c κs. search rules) (λ c. cc))

@@ -1,7 +1,7 @@
 -- The floats that are read are the parts of record `at`: one law over any record (Cells).
 use borrow.Author.Rules.{rules}
-use Rattle.algebra.proofs.Cells.{read-record}
-use Rattle.hyperdual.proofs.Flat.{hyper-dual-laws}
+use Rattle.algebra.proofs.Cells.{read_record}
+use Rattle.hyperdual.proofs.Flat.{hyper_dual_laws}
 use Rattle.hyperdual.proofs.records.read.Statement.{statement}
 use Rattle.hyperdual.proofs.records.read.Tie as tie
 
@@ -11,4 +11,4 @@ read_spec =
     (tie.spec
     (λ c. search rules) (λ c. search rules) (λ c. search rules) (λ c. search rules) (λ c. search rules) (λ c. search rules)
     (λ c. search rules) (λ c. search rules) (λ c. search rules) (λ c. search rules) (λ c. search rules) (λ c. search rules)
-    (λ c. search (rules, read-record hyper-dual-laws)))
+    (λ c. search (rules, read_record hyper_dual_laws)))

@@ -3,24 +3,24 @@ use borrow.Author.Rules.{rules}
 use native.Mathlib.Omega.{arith}
 use Prim.Native.Nat.{◌-◌}
 use Rattle.algebra.specs.Algebra.{zero_of}
-use Rattle.algebra.proofs.Joins.{Joining, joining-starts, joining-turn, sum-refused, sum-ends}
-use Rattle.hyperdual.specs.Rules.{hyperDualAdd, hyperDualAlgebra, hyperDualLayout}
-use Rattle.hyperdual.proofs.Flat.{hyper-dual-laws}
+use Rattle.algebra.proofs.Joins.{Joining, joining_starts, joining_turn, sum_refused, sum_ends}
+use Rattle.hyperdual.specs.Rules.{hyper_dual_add, hyper_dual_algebra, hyper_dual_layout}
+use Rattle.hyperdual.proofs.Flat.{hyper_dual_laws}
 use Rattle.hyperdual.proofs.records.sum.Statement.{statement}
 use Rattle.hyperdual.proofs.records.sum.Tie as tie
 
 abbrev invariant-loop : tie.invariant-loop
-invariant-loop floats count acc₀ p₀ acc p = Joining hyperDualLayout hyperDualAdd (zero_of hyperDualAlgebra) floats acc p
+invariant-loop floats count acc₀ p₀ acc p = Joining hyper_dual_layout hyper_dual_add (zero_of hyper_dual_algebra) floats acc p
 
 abbrev decreases-loop : tie.decreases-loop
 decreases-loop floats count acc₀ p₀ acc p = count - p
 
-pub sum-spec : {M : Type 1} → statement M
-sum-spec =
+pub sum_spec : {M : Type 1} → statement M
+sum_spec =
     tie.close
     (tie.spec invariant-loop decreases-loop
-    (λ c. search (rules, sum-refused hyper-dual-laws))
-    (λ c. joining-starts hyper-dual-laws)
+    (λ c. search (rules, sum_refused hyper_dual_laws))
+    (λ c. joining_starts hyper_dual_laws)
     (λ c κs. omega arith) (λ c κs. search rules) (λ c. omega arith) (λ c. omega arith)
-    (λ c. search (rules, joining-turn hyper-dual-laws))
-    (λ c. search (rules, sum-ends hyper-dual-laws)))
+    (λ c. search (rules, joining_turn hyper_dual_laws))
+    (λ c. search (rules, sum_ends hyper_dual_laws)))

@@ -2,8 +2,8 @@
 use borrow.Author.Rules.{rules}
 use native.Mathlib.Omega.{arith}
 use lib.ListN.{length-set}
-use Rattle.algebra.proofs.Cells.{write-record}
-use Rattle.hyperdual.proofs.Flat.{hyper-dual-laws}
+use Rattle.algebra.proofs.Cells.{write_record}
+use Rattle.hyperdual.proofs.Flat.{hyper_dual_laws}
 use Rattle.hyperdual.proofs.records.write.Statement.{statement}
 use Rattle.hyperdual.proofs.records.write.Tie as tie
 
@@ -14,4 +14,4 @@ write_spec =
     (λ c. search rules) (λ c. search rules) (λ c. search rules) (λ c. search rules) (λ c. search rules)
     (λ c. simp length-set (omega arith)) (λ c. search rules) (λ c. search rules) (λ c. simp length-set (omega arith))
     (λ c. search rules) (λ c. search rules) (λ c. search rules) (λ c. search rules)
-    (λ c. search (rules, write-record hyper-dual-laws)))
+    (λ c. search (rules, write_record hyper_dual_laws)))

@@ -1,14 +1,14 @@
 -- Each way through the tests is a case of the definition: one law a case, over any record (Signs).
 use borrow.Author.Rules.{rules}
-use Rattle.derivatives.proofs.Signs.{abs-negative, abs_positive}
-use Rattle.hyperhyperdual.specs.Rules.{hyperHyperDualAlgebra}
+use Rattle.derivatives.proofs.Signs.{abs_negative, abs_positive}
+use Rattle.hyperhyperdual.specs.Rules.{hyper_hyper_dual_algebra}
 use Rattle.hyperhyperdual.proofs.HyperHyperDual.abs.Statement.{statement}
 use Rattle.hyperhyperdual.proofs.HyperHyperDual.abs.Tie as tie
 
-pub abs-spec : {M : Type 1} → statement M
-abs-spec =
+pub abs_spec : {M : Type 1} → statement M
+abs_spec =
     tie.close
     (tie.spec
     (λ c κs. search rules) (λ c κs. search rules)
-    (λ c. search (rules, abs-negative hyperHyperDualAlgebra))
-    (λ c. search (rules, abs_positive hyperHyperDualAlgebra)))
+    (λ c. search (rules, abs_negative hyper_hyper_dual_algebra))
+    (λ c. search (rules, abs_positive hyper_hyper_dual_algebra)))

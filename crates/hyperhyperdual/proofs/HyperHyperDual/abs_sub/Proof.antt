@@ -1,14 +1,14 @@
 -- Each way through the tests is a case of the definition: one law a case, over any record (Signs).
 use borrow.Author.Rules.{rules}
-use Rattle.derivatives.proofs.Signs.{abs-sub-above, abs-sub-else}
-use Rattle.hyperhyperdual.specs.Rules.{hyperHyperDualAlgebra}
+use Rattle.derivatives.proofs.Signs.{abs_sub_above, abs_sub_else}
+use Rattle.hyperhyperdual.specs.Rules.{hyper_hyper_dual_algebra}
 use Rattle.hyperhyperdual.proofs.HyperHyperDual.abs_sub.Statement.{statement}
 use Rattle.hyperhyperdual.proofs.HyperHyperDual.abs_sub.Tie as tie
 
-pub abs-sub-spec : {M : Type 1} → statement M
-abs-sub-spec =
+pub abs_sub_spec : {M : Type 1} → statement M
+abs_sub_spec =
     tie.close
     (tie.spec
     (λ c κs. search rules)
-    (λ c. search (rules, abs-sub-above hyperHyperDualAlgebra))
-    (λ c. search (rules, abs-sub-else hyperHyperDualAlgebra)))
+    (λ c. search (rules, abs_sub_above hyper_hyper_dual_algebra))
+    (λ c. search (rules, abs_sub_else hyper_hyper_dual_algebra)))

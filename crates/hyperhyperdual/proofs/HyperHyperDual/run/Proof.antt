@@ -1,7 +1,7 @@
 -- Each arm of the `match` is a case of the plan: one law an arm, over any record (Arms).
 use borrow.Author.Rules.{rules}
-use Rattle.derivatives.proofs.Arms.{arm-refused, arm-one, arm_same, arm-square, arm-chain, arm-quotient, arm-small-j0, arm-small-j1, arm-small-j2, arm-bessel-j0, arm-bessel-j1, arm-bessel-j2, arm-cubic-j1}
-use Rattle.hyperhyperdual.specs.Rules.{hyperHyperDualNderiv, hyperHyperDualAlgebra}
+use Rattle.derivatives.proofs.Arms.{arm_refused, arm_one, arm_same, arm_square, arm_chain, arm_quotient, arm_small_j0, arm_small_j1, arm_small_j2, arm_bessel_j0, arm_bessel_j1, arm_bessel_j2, arm_cubic_j1}
+use Rattle.hyperhyperdual.specs.Rules.{hyper_hyper_dual_nderiv, hyper_hyper_dual_algebra}
 use Rattle.hyperhyperdual.proofs.HyperHyperDual.run.Statement.{statement}
 use Rattle.hyperhyperdual.proofs.HyperHyperDual.run.Tie as tie
 
@@ -15,16 +15,16 @@ run_spec =
     (λ c. search rules) (λ c κs. search rules) (λ c. search rules) (λ c κs. search rules) (λ c κs. search rules)
     (λ c. search rules) (λ c κs. search rules) (λ c κs. search rules) (λ c κs. search rules) (λ c. search rules)
     (λ c κs. search rules) (λ c κs. search rules) (λ c κs. search rules) (λ c. search rules) (λ c κs. search rules)
-    (λ c. search (rules, arm-refused hyperHyperDualAlgebra hyperHyperDualNderiv))
-    (λ c. search (rules, arm-one hyperHyperDualAlgebra hyperHyperDualNderiv))
-    (λ c. search (rules, arm_same hyperHyperDualAlgebra hyperHyperDualNderiv))
-    (λ c. search (rules, arm-square hyperHyperDualAlgebra hyperHyperDualNderiv))
-    (λ c. search (rules, arm-chain hyperHyperDualAlgebra hyperHyperDualNderiv))
-    (λ c. search (rules, arm-quotient hyperHyperDualAlgebra hyperHyperDualNderiv))
-    (λ c. search (rules, arm-small-j0 hyperHyperDualAlgebra hyperHyperDualNderiv))
-    (λ c. search (rules, arm-small-j1 hyperHyperDualAlgebra hyperHyperDualNderiv))
-    (λ c. search (rules, arm-small-j2 hyperHyperDualAlgebra hyperHyperDualNderiv))
-    (λ c. search (rules, arm-bessel-j0 hyperHyperDualAlgebra hyperHyperDualNderiv))
-    (λ c. search (rules, arm-bessel-j1 hyperHyperDualAlgebra hyperHyperDualNderiv))
-    (λ c. search (rules, arm-bessel-j2 hyperHyperDualAlgebra hyperHyperDualNderiv))
-    (λ c. search (rules, arm-cubic-j1 hyperHyperDualAlgebra hyperHyperDualNderiv)))
+    (λ c. search (rules, arm_refused hyper_hyper_dual_algebra hyper_hyper_dual_nderiv))
+    (λ c. search (rules, arm_one hyper_hyper_dual_algebra hyper_hyper_dual_nderiv))
+    (λ c. search (rules, arm_same hyper_hyper_dual_algebra hyper_hyper_dual_nderiv))
+    (λ c. search (rules, arm_square hyper_hyper_dual_algebra hyper_hyper_dual_nderiv))
+    (λ c. search (rules, arm_chain hyper_hyper_dual_algebra hyper_hyper_dual_nderiv))
+    (λ c. search (rules, arm_quotient hyper_hyper_dual_algebra hyper_hyper_dual_nderiv))
+    (λ c. search (rules, arm_small_j0 hyper_hyper_dual_algebra hyper_hyper_dual_nderiv))
+    (λ c. search (rules, arm_small_j1 hyper_hyper_dual_algebra hyper_hyper_dual_nderiv))
+    (λ c. search (rules, arm_small_j2 hyper_hyper_dual_algebra hyper_hyper_dual_nderiv))
+    (λ c. search (rules, arm_bessel_j0 hyper_hyper_dual_algebra hyper_hyper_dual_nderiv))
+    (λ c. search (rules, arm_bessel_j1 hyper_hyper_dual_algebra hyper_hyper_dual_nderiv))
+    (λ c. search (rules, arm_bessel_j2 hyper_hyper_dual_algebra hyper_hyper_dual_nderiv))
+    (λ c. search (rules, arm_cubic_j1 hyper_hyper_dual_algebra hyper_hyper_dual_nderiv)))

@@ -3,6 +3,6 @@ use borrow.Author.Rules.{rules}
 use Rattle.hyperhyperdual.proofs.HyperHyperDual.small_j0.Statement.{statement}
 use Rattle.hyperhyperdual.proofs.HyperHyperDual.small_j0.Tie as tie
 
-pub small-j0-spec : {M : Type 1} → statement M
-small-j0-spec = tie.close (tie.spec
+pub small_j0_spec : {M : Type 1} → statement M
+small_j0_spec = tie.close (tie.spec
     (λ c κs. search rules) (λ c κs. search rules) (λ c κs. search rules) (λ c. cc))

@@ -3,24 +3,24 @@ use borrow.Author.Rules.{rules}
 use native.Mathlib.Omega.{arith}
 use Prim.Native.Nat.{◌-◌}
 use Rattle.algebra.specs.Algebra.{one_of}
-use Rattle.algebra.proofs.Joins.{Joining, joining-starts, joining-turn, product-refused, product-ends}
-use Rattle.hyperhyperdual.specs.Rules.{hyperHyperDualMul, hyperHyperDualAlgebra, hyperHyperDualLayout}
-use Rattle.hyperhyperdual.proofs.Flat.{hyper-hyper-dual-laws}
+use Rattle.algebra.proofs.Joins.{Joining, joining_starts, joining_turn, product_refused, product_ends}
+use Rattle.hyperhyperdual.specs.Rules.{hyper_hyper_dual_mul, hyper_hyper_dual_algebra, hyper_hyper_dual_layout}
+use Rattle.hyperhyperdual.proofs.Flat.{hyper_hyper_dual_laws}
 use Rattle.hyperhyperdual.proofs.records.product.Statement.{statement}
 use Rattle.hyperhyperdual.proofs.records.product.Tie as tie
 
 abbrev invariant-loop : tie.invariant-loop
-invariant-loop floats count acc₀ p₀ acc p = Joining hyperHyperDualLayout hyperHyperDualMul (one_of hyperHyperDualAlgebra) floats acc p
+invariant-loop floats count acc₀ p₀ acc p = Joining hyper_hyper_dual_layout hyper_hyper_dual_mul (one_of hyper_hyper_dual_algebra) floats acc p
 
 abbrev decreases-loop : tie.decreases-loop
 decreases-loop floats count acc₀ p₀ acc p = count - p
 
-pub product-spec : {M : Type 1} → statement M
-product-spec =
+pub product_spec : {M : Type 1} → statement M
+product_spec =
     tie.close
     (tie.spec invariant-loop decreases-loop
-    (λ c. search (rules, product-refused hyper-hyper-dual-laws))
-    (λ c. joining-starts hyper-hyper-dual-laws)
+    (λ c. search (rules, product_refused hyper_hyper_dual_laws))
+    (λ c. joining_starts hyper_hyper_dual_laws)
     (λ c κs. omega arith) (λ c κs. search rules) (λ c. omega arith) (λ c. omega arith)
-    (λ c. search (rules, joining-turn hyper-hyper-dual-laws))
-    (λ c. search (rules, product-ends hyper-hyper-dual-laws)))
+    (λ c. search (rules, joining_turn hyper_hyper_dual_laws))
+    (λ c. search (rules, product_ends hyper_hyper_dual_laws)))

@@ -1,7 +1,7 @@
 -- The floats that are read are the parts of record `at`: one law over any record (Cells).
 use borrow.Author.Rules.{rules}
-use Rattle.algebra.proofs.Cells.{read-record}
-use Rattle.hyperhyperdual.proofs.Flat.{hyper-hyper-dual-laws}
+use Rattle.algebra.proofs.Cells.{read_record}
+use Rattle.hyperhyperdual.proofs.Flat.{hyper_hyper_dual_laws}
 use Rattle.hyperhyperdual.proofs.records.read.Statement.{statement}
 use Rattle.hyperhyperdual.proofs.records.read.Tie as tie
 
@@ -13,4 +13,4 @@ read_spec =
     (λ c. search rules) (λ c. search rules) (λ c. search rules) (λ c. search rules) (λ c. search rules) (λ c. search rules)
     (λ c. search rules) (λ c. search rules) (λ c. search rules) (λ c. search rules) (λ c. search rules) (λ c. search rules)
     (λ c. search rules) (λ c. search rules) (λ c. search rules) (λ c. search rules) (λ c. search rules) (λ c. search rules)
-    (λ c. search (rules, read-record hyper-hyper-dual-laws)))
+    (λ c. search (rules, read_record hyper_hyper_dual_laws)))

@@ -2,8 +2,8 @@
 use borrow.Author.Rules.{rules}
 use native.Mathlib.Omega.{arith}
 use lib.ListN.{length-set}
-use Rattle.algebra.proofs.Cells.{write-record}
-use Rattle.hyperhyperdual.proofs.Flat.{hyper-hyper-dual-laws}
+use Rattle.algebra.proofs.Cells.{write_record}
+use Rattle.hyperhyperdual.proofs.Flat.{hyper_hyper_dual_laws}
 use Rattle.hyperhyperdual.proofs.records.write.Statement.{statement}
 use Rattle.hyperhyperdual.proofs.records.write.Tie as tie
 
@@ -17,4 +17,4 @@ write_spec =
     (λ c. simp length-set (omega arith)) (λ c. search rules) (λ c. search rules) (λ c. simp length-set (omega arith))
     (λ c. search rules) (λ c. search rules) (λ c. simp length-set (omega arith)) (λ c. search rules) (λ c. search rules)
     (λ c. simp length-set (omega arith)) (λ c. search rules)
-    (λ c. search (rules, write-record hyper-hyper-dual-laws)))
+    (λ c. search (rules, write_record hyper_hyper_dual_laws)))

@@ -2,7 +2,7 @@
 use Prim.Native.Nat.{◌-◌}
 use lib.ListN.{length}
 use borrow.Author.Rules.{rules}
-use Rattle.market_reader.proofs.EntryLines.{Reading, reading-none, reading-more, reading-faults, reading-left, reading-all}
+use Rattle.market_reader.proofs.EntryLines.{Reading, reading_none, reading_more, reading_faults, reading_left, reading_all}
 use Rattle.market_reader.proofs.entries.all.Statement.{statement}
 use Rattle.market_reader.proofs.entries.all.Tie as tie
 
@@ -12,16 +12,16 @@ invariant-loop text p numbers₀ at₀ i₀ numbers at i = Reading text p (lengt
 abbrev decreases-loop : tie.decreases-loop
 decreases-loop text p numbers₀ at₀ i₀ numbers at i = length numbers₀ - i
 
-pub all-spec : {M : Type 1} → statement M
-all-spec =
+pub all_spec : {M : Type 1} → statement M
+all_spec =
     tie.close
     (tie.spec invariant-loop decreases-loop
-    (λ c. search (rules, reading-none))
+    (λ c. search (rules, reading_none))
     (λ c κs. search rules) (λ c. search rules) (λ c. search rules) (λ c κs. search rules) (λ c. search rules)
-    (λ c. search (rules, reading-faults))
+    (λ c. search (rules, reading_faults))
     (λ c. search rules) (λ c. search rules) (λ c. search rules) (λ c. search rules)
-    (λ c. search (rules, reading-more))
+    (λ c. search (rules, reading_more))
     (λ c. search rules)
-    (λ c. search (rules, reading-left))
+    (λ c. search (rules, reading_left))
     (λ c. search rules)
-    (λ c. search (rules, reading-all)))
+    (λ c. search (rules, reading_all)))

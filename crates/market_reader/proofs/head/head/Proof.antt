@@ -1,6 +1,6 @@
 -- Too long, general, symmetric, or neither.
 use borrow.Author.Rules.{rules}
-use Rattle.market_reader.proofs.HeadLines.{general-long, symmetric-long, head-long, head-general, head-symmetric, head-neither}
+use Rattle.market_reader.proofs.HeadLines.{general_long, symmetric_long, head_long, head_general, head_symmetric, head_neither}
 use Rattle.market_reader.proofs.head.head.Statement.{statement}
 use Rattle.market_reader.proofs.head.head.Tie as tie
 
@@ -8,13 +8,13 @@ pub head_spec : {M : Type 1} → statement M
 head_spec =
     tie.close
     (tie.spec
-    (λ c. search (rules, head-long))
+    (λ c. search (rules, head_long))
     (λ c κs. search rules)
-    (λ c κs. search (rules, general-long))
+    (λ c κs. search (rules, general_long))
     (λ c κs. search rules)
-    (λ c. search (rules, head-general))
+    (λ c. search (rules, head_general))
     (λ c κs. search rules)
-    (λ c κs. search (rules, symmetric-long))
+    (λ c κs. search (rules, symmetric_long))
     (λ c κs. search rules)
-    (λ c. search (rules, head-symmetric))
-    (λ c. search (rules, head-neither)))
+    (λ c. search (rules, head_symmetric))
+    (λ c. search (rules, head_neither)))

@@ -1,6 +1,6 @@
 -- Two ways: the diagonal and below, or all.
 use borrow.Author.Rules.{rules}
-use Rattle.market_reader.proofs.Placing.{square-fits, triangle-fits, count-symmetric, count-general, triangle-few, square-few}
+use Rattle.market_reader.proofs.Placing.{square_fits, triangle_fits, count_symmetric, count_general, triangle_few, square_few}
 use Rattle.market_reader.proofs.places.count.Statement.{statement}
 use Rattle.market_reader.proofs.places.count.Tie as tie
 
@@ -9,7 +9,7 @@ count_spec =
     tie.close
     (tie.spec
     (λ c. search rules)
-    (λ c. search (rules, triangle-fits))
-    (λ c. search (rules, count-symmetric, triangle-few))
-    (λ c. search (rules, square-fits))
-    (λ c. search (rules, count-general, square-few)))
+    (λ c. search (rules, triangle_fits))
+    (λ c. search (rules, count_symmetric, triangle_few))
+    (λ c. search (rules, square_fits))
+    (λ c. search (rules, count_general, square_few)))

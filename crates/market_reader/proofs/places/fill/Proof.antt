@@ -2,7 +2,7 @@
 use Prim.Native.Nat.{◌-◌, ◌*◌, ◌≤◌}
 use borrow.Author.Rules.{rules}
 use Rattle.market_reader.specs.Told.{PlacedUpTo}
-use Rattle.market_reader.proofs.Placing.{placed-none, next_row, placed-all, square-kept}
+use Rattle.market_reader.proofs.Placing.{placed_none, next_row, placed_all, square_kept}
 use Rattle.market_reader.proofs.places.fill.Statement.{statement}
 use Rattle.market_reader.proofs.places.fill.Tie as tie
 
@@ -17,9 +17,9 @@ fill_spec =
     tie.close
     (tie.spec invariant-loop decreases-loop
     (λ c κs. search rules)
-    (λ c. search (rules, placed-none))
-    (λ c κs. search (rules, square-kept))
+    (λ c. search (rules, placed_none))
+    (λ c κs. search (rules, square_kept))
     (λ c. search rules) (λ c. search rules)
     (λ c. search (rules, next_row))
     (λ c. search rules)
-    (λ c. search (rules, placed-all)))
+    (λ c. search (rules, placed_all)))

@@ -2,7 +2,7 @@
 use Prim.Native.Nat.{◌+◌, ◌-◌, ◌*◌, ◌≤◌}
 use borrow.Author.Rules.{rules}
 use Rattle.market_reader.specs.Told.{PlacedUpTo}
-use Rattle.market_reader.proofs.Placing.{row_fits, record-fits, real-fits, real-inside, placed-more, row-begins, row_ends}
+use Rattle.market_reader.proofs.Placing.{row_fits, record_fits, real_fits, real_inside, placed_more, row_begins, row_ends}
 use Rattle.market_reader.proofs.places.fill_row.Statement.{statement}
 use Rattle.market_reader.proofs.places.fill_row.Tie as tie
 
@@ -12,18 +12,18 @@ invariant-loop symmetric n numbers r width out₀ c₀ out c = (c ≤ n) × Plac
 abbrev decreases-loop : tie.decreases-loop
 decreases-loop symmetric n numbers r width out₀ c₀ out c = n - c
 
-pub fill-row-spec : {M : Type 1} → statement M
-fill-row-spec =
+pub fill_row_spec : {M : Type 1} → statement M
+fill_row_spec =
     tie.close
     (tie.spec invariant-loop decreases-loop
-    (λ c. search (rules, row-begins))
+    (λ c. search (rules, row_begins))
     (λ c κs. search rules) (λ c κs. search rules)
     (λ c. search (rules, row_fits))
-    (λ c. search (rules, record-fits))
-    (λ c. search (rules, real-fits))
-    (λ c. search (rules, real-inside))
-    (λ c. search (rules, real-inside))
+    (λ c. search (rules, record_fits))
+    (λ c. search (rules, real_fits))
+    (λ c. search (rules, real_inside))
+    (λ c. search (rules, real_inside))
     (λ c. search rules) (λ c. search rules)
-    (λ c. search (rules, placed-more))
+    (λ c. search (rules, placed_more))
     (λ c. search rules)
     (λ c. search (rules, row_ends)))

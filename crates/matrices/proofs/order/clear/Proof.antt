@@ -3,7 +3,7 @@ use mathlib.Core.Path.{◌≡◌, refl, sym, ◌∙◌}
 use Prim.Native.Nat.{ℕ, ◌-◌}
 use lib.ListN.{length, replicate, length-set, length-replicate, get_or-replicate}
 use native.Mathlib.Omega.{arith}
-use Rattle.floats.proofs.Fill.{Filled, filled_more, filled-all}
+use Rattle.floats.proofs.Fill.{Filled, filled_more, filled_all}
 use Rattle.matrices.proofs.order.clear.Statement.{statement}
 use Rattle.matrices.proofs.order.clear.Tie as tie
 
@@ -27,7 +27,7 @@ loop-again c =
 returns : tie.Need-returns invariant-loop decreases-loop
 returns c =
     let at = c.before in
-    filled-all 0 (λ k. 0) at.loop.order (replicate (length at.before.args.order.now) 0) at.loop.i c.loop-test.false (at.loop.invariant.0 ∙ sym (length-replicate {A = ℕ} (length at.before.args.order.now) 0)) at.loop.invariant.1 (λ k h. get_or-replicate (length at.before.args.order.now) k 0 0 (omega arith))
+    filled_all 0 (λ k. 0) at.loop.order (replicate (length at.before.args.order.now) 0) at.loop.i c.loop-test.false (at.loop.invariant.0 ∙ sym (length-replicate {A = ℕ} (length at.before.args.order.now) 0)) at.loop.invariant.1 (λ k h. get_or-replicate (length at.before.args.order.now) k 0 0 (omega arith))
 
 pub clear_spec : {M : Type 1} → statement M
 clear_spec =

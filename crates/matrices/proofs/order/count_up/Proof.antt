@@ -3,9 +3,9 @@ use mathlib.Core.Path.{◌≡◌, refl, sym, ◌∙◌}
 use Prim.Native.Nat.{◌-◌}
 use lib.ListN.{length, length-set}
 use native.Mathlib.Omega.{arith}
-use Rattle.floats.proofs.Fill.{Filled, filled_more, filled-all}
-use Rattle.algebra.proofs.Flat.{tabulate-length, tabulate-at}
-use Rattle.matrices.specs.Lu.{countUp}
+use Rattle.floats.proofs.Fill.{Filled, filled_more, filled_all}
+use Rattle.algebra.proofs.Flat.{tabulate_length, tabulate_at}
+use Rattle.matrices.specs.Lu.{count_up}
 use Rattle.matrices.proofs.order.count_up.Statement.{statement}
 use Rattle.matrices.proofs.order.count_up.Tie as tie
 
@@ -29,10 +29,10 @@ loop-again c =
 returns : tie.Need-returns invariant-loop decreases-loop
 returns c =
     let at = c.before in
-    filled-all 0 (λ k. k) at.loop.order (countUp (length at.before.args.order.now)) at.loop.i c.loop-test.false (at.loop.invariant.0 ∙ sym (tabulate-length (λ k. k) (length at.before.args.order.now) 0)) at.loop.invariant.1 (λ k h. tabulate-at (λ j. j) (length at.before.args.order.now) 0 k 0 (omega arith) ∙ omega arith)
+    filled_all 0 (λ k. k) at.loop.order (count_up (length at.before.args.order.now)) at.loop.i c.loop-test.false (at.loop.invariant.0 ∙ sym (tabulate_length (λ k. k) (length at.before.args.order.now) 0)) at.loop.invariant.1 (λ k h. tabulate_at (λ j. j) (length at.before.args.order.now) 0 k 0 (omega arith) ∙ omega arith)
 
-pub count-up-spec : {M : Type 1} → statement M
-count-up-spec =
+pub count_up_spec : {M : Type 1} → statement M
+count_up_spec =
     tie.close
     (tie.spec invariant-loop decreases-loop
     loop-holds

@@ -6,8 +6,8 @@ use Rattle.matrices.proofs.Places.{few}
 use Rattle.matrices.proofs.refusal.inverse.Statement.{statement}
 use Rattle.matrices.proofs.refusal.inverse.Tie as tie
 
-pub inverse-spec : {M : Type 1} → statement M
-inverse-spec =
+pub inverse_spec : {M : Type 1} → statement M
+inverse_spec =
     tie.close
     (tie.spec
     (λ c. search (rules, tests))

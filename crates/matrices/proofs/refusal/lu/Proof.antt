@@ -6,8 +6,8 @@ use Rattle.matrices.proofs.Places.{few}
 use Rattle.matrices.proofs.refusal.lu.Statement.{statement}
 use Rattle.matrices.proofs.refusal.lu.Tie as tie
 
-pub lu-spec : {M : Type 1} → statement M
-lu-spec = tie.close (tie.spec
+pub lu_spec : {M : Type 1} → statement M
+lu_spec = tie.close (tie.spec
     (λ c. search (rules, tests))
     -- n is at most 32 and a record's width at most 8: no product is large
     (λ c. omega (arith, few _ _ c.if1.false c.before.requires))

@@ -6,8 +6,8 @@ use Rattle.matrices.proofs.Places.{few}
 use Rattle.matrices.proofs.refusal.solve.Statement.{statement}
 use Rattle.matrices.proofs.refusal.solve.Tie as tie
 
-pub solve-spec : {M : Type 1} → statement M
-solve-spec =
+pub solve_spec : {M : Type 1} → statement M
+solve_spec =
     tie.close
     (tie.spec
     (λ c. search (rules, tests))

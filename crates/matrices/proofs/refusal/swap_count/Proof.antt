@@ -7,25 +7,25 @@ use borrow.Author.Rules.{rules}
 use borrow.Author.Tests.{lt-ltb, le-ltb}
 use Rattle.refusals.specs.Largest as largest
 use Rattle.refusals.specs.Number as refusal
-use Rattle.matrices.specs.Entries.{countRefusal}
+use Rattle.matrices.specs.Entries.{count_refusal}
 use Rattle.orders.specs.Order.{differ}
-use Rattle.orders.proofs.Odd.{odd-mod}
+use Rattle.orders.proofs.Odd.{odd_mod}
 use Rattle.matrices.proofs.refusal.swap_count.Statement.{statement}
 use Rattle.matrices.proofs.refusal.swap_count.Tie as tie
 
-too_many : (s : ℕ) (odd : Bool) → largest.swaps < s → refusal.wrongSwaps ≡ countRefusal odd s
+too_many : (s : ℕ) (odd : Bool) → largest.swaps < s → refusal.wrong_swaps ≡ count_refusal odd s
 too_many s odd h = rw (lt-ltb largest.swaps s h) refl
 
 module _ (s : ℕ) (odd b : Bool) (h : s ≤ largest.swaps) (e : b ≡ differ (eqb (s % 2) 1) odd) where
-  other-parity : b ≡ true → refusal.wrongSwaps ≡ countRefusal odd s
-  other-parity u = rw (le-ltb largest.swaps s h, ← odd-mod s, ← e, u) refl
+  other_parity : b ≡ true → refusal.wrong_swaps ≡ count_refusal odd s
+  other_parity u = rw (le-ltb largest.swaps s h, ← odd_mod s, ← e, u) refl
 
-  same-parity : b ≡ false → 0 ≡ countRefusal odd s
-  same-parity u = rw (le-ltb largest.swaps s h, ← odd-mod s, ← e, u) refl
+  same_parity : b ≡ false → 0 ≡ count_refusal odd s
+  same_parity u = rw (le-ltb largest.swaps s h, ← odd_mod s, ← e, u) refl
 
-pub swap-count-spec : {M : Type 1} → statement M
-swap-count-spec = tie.close (tie.spec
+pub swap_count_spec : {M : Type 1} → statement M
+swap_count_spec = tie.close (tie.spec
     (λ c. search (rules, too_many))
     (λ c κs. search rules)
-    (λ c. search (rules, other-parity))
-    (λ c. search (rules, same-parity)))
+    (λ c. search (rules, other_parity))
+    (λ c. search (rules, same_parity)))

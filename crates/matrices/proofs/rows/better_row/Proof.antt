@@ -4,27 +4,27 @@ use Prim.Native.Nat.{ℕ}
 use mathlib.Core.Bool.{Bool, cond}
 use lib.Ieee.{Float, lt}
 use borrow.Author.Rules.{rules}
-use Rattle.real.specs.Sign.{absOf}
+use Rattle.real.specs.Sign.{abs_of}
 use Rattle.matrices.specs.Lu.{better}
 use Rattle.matrices.specs.declared.Pivot.{Pivot}
 use Rattle.matrices.proofs.rows.better_row.Statement.{statement}
 use Rattle.matrices.proofs.rows.better_row.Tie as tie
 
 -- what the code's test finds is what `better` takes
-better-by : (x : Float) (k : ℕ) (b : Pivot) (magnitude : Float) (t : Bool) → magnitude ≡ absOf x → lt b.magnitude magnitude ≡ t → cond t (record { magnitude = magnitude; row = k }) b ≡ better x k b
+better_by : (x : Float) (k : ℕ) (b : Pivot) (magnitude : Float) (t : Bool) → magnitude ≡ abs_of x → lt b.magnitude magnitude ≡ t → cond t (record { magnitude = magnitude; row = k }) b ≡ better x k b
 unfolding better
-better-by x k b magnitude t e h = rw (← e, h) refl
+better_by x k b magnitude t e h = rw (← e, h) refl
 
 -- taken: strictly greater
 returns : tie.Need-returns
-returns c = better-by _ _ _ _ _ c.before.before.abs.ensures c.if1.true
+returns c = better_by _ _ _ _ _ c.before.before.abs.ensures c.if1.true
 
 -- left: the earlier one stays
 returns-2 : tie.Need-returns-2
-returns-2 c = better-by _ _ _ _ _ c.before.before.abs.ensures c.if1.false
+returns-2 c = better_by _ _ _ _ _ c.before.before.abs.ensures c.if1.false
 
-pub better-row-spec : {M : Type 1} → statement M
-better-row-spec = tie.close (tie.spec
+pub better_row_spec : {M : Type 1} → statement M
+better_row_spec = tie.close (tie.spec
     (λ c κs. search rules)
     returns
     returns-2)

@@ -7,26 +7,26 @@ use mathlib.Core.List.{List}
 use native.Mathlib.Omega.{arith}
 use Rattle.real.specs.Operations.{zero}
 use Rattle.algebra.specs.Loop.{upto}
-use Rattle.algebra.proofs.Loop.{upto_turn, upto-end}
-use Rattle.matrices.specs.Matrix.{exchange, exchangeRows}
-use Rattle.algebra.proofs.Inside.{getD-inside}
+use Rattle.algebra.proofs.Loop.{upto_turn, upto_end}
+use Rattle.matrices.specs.Matrix.{exchange, exchange_rows}
+use Rattle.algebra.proofs.Inside.{get_or-inside}
 use Rattle.matrices.proofs.rows.exchange_rows.Statement.{statement}
 use Rattle.matrices.proofs.rows.exchange_rows.Tie as tie
 
 -- the code's three moves are an exchange
 exchanged : (l : List Float) (x y : ℕ) → x < length l → y < length l → set (set l x (get_or l y nan)) y (get_or l x nan) ≡ exchange zero x y l
 unfolding exchange
-exchanged l x y hx hy = λ i. set (set l x (getD-inside l y nan zero hy i)) y (getD-inside l x nan zero hx i)
+exchanged l x y hx hy = λ i. set (set l x (get_or-inside l y nan zero hy i)) y (get_or-inside l x nan zero hx i)
 
 abbrev invariant-loop : tie.invariant-loop
-invariant-loop k a₀ p q x y c₀ a c = (c ≤ k) × ((length a ≡ length a₀) × (upto c k (λ e. exchange zero (p * k + e) (q * k + e)) a ≡ exchangeRows zero k p q a₀))
+invariant-loop k a₀ p q x y c₀ a c = (c ≤ k) × ((length a ≡ length a₀) × (upto c k (λ e. exchange zero (p * k + e) (q * k + e)) a ≡ exchange_rows zero k p q a₀))
 
 abbrev decreases-loop : tie.decreases-loop
 decreases-loop k a₀ p q x y c₀ a c = k - c
 
 -- at first all is left to run
 loop-holds : tie.Need-loop-init invariant-loop decreases-loop
-unfolding exchangeRows
+unfolding exchange_rows
 loop-holds c = (omega arith, (refl, refl))
 
 -- a store keeps the length
@@ -43,10 +43,10 @@ loop-again c =
 
 -- at the end nothing is left
 returns : tie.Need-returns invariant-loop decreases-loop
-returns c = upto-end c.before.loop.c _ _ _ c.loop-test.false c.before.loop.invariant.1.1
+returns c = upto_end c.before.loop.c _ _ _ c.loop-test.false c.before.loop.invariant.1.1
 
-pub exchange-rows-spec : {M : Type 1} → statement M
-exchange-rows-spec =
+pub exchange_rows_spec : {M : Type 1} → statement M
+exchange_rows_spec =
     tie.close
     (tie.spec invariant-loop decreases-loop
     (λ c. omega arith) (λ c. omega arith)

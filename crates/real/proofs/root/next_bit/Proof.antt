@@ -13,7 +13,7 @@ use mir.Syntax.{w64}
 use mir.Val.{Fits}
 use Rattle.real.specs.declared.root.Found.{Found}
 use Rattle.real.specs.Bits.{next_of}
-use Rattle.real.proofs.Differences.{in-word, what-is-left, is_below, is-not-below}
+use Rattle.real.proofs.Differences.{in_word, what_is_left, is_below, is_not_below}
 use Rattle.real.proofs.root.next_bit.Statement.{statement}
 use Rattle.real.proofs.root.next_bit.Tie as tie
 use Rattle.real.proofs.root.next_bit.Reads as reads
@@ -32,22 +32,22 @@ too_much t r x y v h e = e ∙ sym (ap (λ (b : Bool). cond b x y) (lt-leb t r h
 
 -- both are below 2 ^ 63
 sub-left : tie.Need-overflow-sub-left
-sub-left c = in-word _ _ (small c).0 (small c).1
+sub-left c = in_word _ _ (small c).0 (small c).1
 
 -- not below zero
 cast-t21 : tie.Need-overflow-cast-t21
 cast-t21 c =
     let s = small c.before.before in
-    let fits = is-not-below _ _ s.0 s.1 _ c.if2.false in
-    subst (λ (z : ℤ). T (non_neg z) × Fits w64 (nat_abs z)) (sym (what-is-left _ _ s.0 s.1 (omega arith))) (tt, record { fits = omega (arith, s.0) })
+    let fits = is_not_below _ _ s.0 s.1 _ c.if2.false in
+    subst (λ (z : ℤ). T (non_neg z) × Fits w64 (nat_abs z)) (sym (what_is_left _ _ s.0 s.1 (omega arith))) (tt, record { fits = omega (arith, s.0) })
 
-abbrev found_of : ℕ → ℕ → ℕ → Found
-found_of twice rest bit = record { twice = twice; rest = rest; bit = bit }
+abbrev found_of_lem : ℕ → ℕ → ℕ → Found
+found_of_lem twice rest bit = record { twice = twice; rest = rest; bit = bit }
 
 -- both choices, by the one test
-both : (t : Bool) (x x' y y' b v w : ℕ) → v ≡ cond t x x' → w ≡ cond t y y' → found_of v w b ≡ cond t (found_of x y b) (found_of x' y' b)
-both true x x' y y' b v w e f = λ i. found_of (e i) (f i) b
-both false x x' y y' b v w e f = λ i. found_of (e i) (f i) b
+both : (t : Bool) (x x' y y' b v w : ℕ) → v ≡ cond t x x' → w ≡ cond t y y' → found_of_lem v w b ≡ cond t (found_of_lem x y b) (found_of_lem x' y' b)
+both true x x' y y' b v w e f = λ i. found_of_lem (e i) (f i) b
+both false x x' y y' b v w e f = λ i. found_of_lem (e i) (f i) b
 
 returns : tie.Need-returns
 unfolding next_of
@@ -59,15 +59,15 @@ returns c =
     both (leb trial rest) _ _ _ _ _ _ _
     (⊎_elim
     (λ w. let more = is_below _ _ s.0 s.1 _ w.0.taken in too_much trial rest _ _ _ (omega arith) w.1)
-    (λ w. let fits = is-not-below _ _ s.0 s.1 _ w.0.left in fitting trial rest _ _ _ (omega arith) w.1)
+    (λ w. let fits = is_not_below _ _ s.0 s.1 _ w.0.left in fitting trial rest _ _ _ (omega arith) w.1)
     c.before.if1.branch)
     (⊎_elim
     (λ w. let more = is_below _ _ s.0 s.1 _ w.0.taken in too_much trial rest _ _ _ (omega arith) w.1)
-    (λ w. let fits = is-not-below _ _ s.0 s.1 _ w.0.left in fitting trial rest _ _ _ (omega arith) (w.1 ∙ ap nat_abs (what-is-left _ _ s.0 s.1 (omega arith))))
+    (λ w. let fits = is_not_below _ _ s.0 s.1 _ w.0.left in fitting trial rest _ _ _ (omega arith) (w.1 ∙ ap nat_abs (what_is_left _ _ s.0 s.1 (omega arith))))
     c.if2.branch)
 
-pub next-bit-spec : {M : Type 1} → statement M
-next-bit-spec = tie.close (tie.spec
+pub next_bit_spec : {M : Type 1} → statement M
+next_bit_spec = tie.close (tie.spec
     (λ c. search rules) (λ c. search rules) (λ c. search rules) (λ c. search rules)
     sub-left
     (λ c. search rules)

@@ -2,7 +2,7 @@
 use borrow.Author.Rules.{rules}
 use Prim.Native.Nat.{◌*◌, ◌^◌, ◌<◌}
 use native.Mathlib.Omega.{arith}
-use Rattle.real.proofs.Rounded.{moves, stays, no-carry}
+use Rattle.real.proofs.Rounded.{moves, stays, no_carry}
 use Rattle.real.proofs.root.rounded_root.Statement.{statement}
 use Rattle.real.proofs.root.rounded_root.Tie as tie
 
@@ -16,7 +16,7 @@ returns c =
     let w = at.whole-root.ensures in
     let up : q < rest = omega arith in
     let m = moves (a * 2 ^ 52) q rest w.0 w.1 up in
-    let short = no-carry a q rest w.0 up w.2 at.before.requires.1 in
+    let short = no_carry a q rest w.0 up w.2 at.before.requires.1 in
     (omega arith, omega arith, omega arith)
 
 -- the rest is at most q: q stays
@@ -30,8 +30,8 @@ returns-2 c =
     let m = stays (a * 2 ^ 52) q rest w.0 (omega arith) (omega arith) in
     (m.0, m.1, w.2)
 
-pub rounded-root-spec : {M : Type 1} → statement M
-rounded-root-spec = tie.close (tie.spec
+pub rounded_root_spec : {M : Type 1} → statement M
+rounded_root_spec = tie.close (tie.spec
     (λ c κs. search rules) (λ c. search rules)
     returns
     returns-2)

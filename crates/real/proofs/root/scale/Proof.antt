@@ -3,7 +3,7 @@ use borrow.Author.Rules.{rules}
 use Prim.Native.Nat.{◌*◌, ◌^◌, ◌%◌, ◌-◌, ◌≤◌, ◌<◌}
 use native.Mathlib.Omega.{arith}
 use lib.Count.{count_leading_zeros}
-use Rattle.real.proofs.Patterns.{shift, scale-low, scale-high}
+use Rattle.real.proofs.Patterns.{shift, scale_low, scale_high}
 use Rattle.real.proofs.root.scale.Statement.{statement}
 use Rattle.real.proofs.root.scale.Tie as tie
 use Rattle.real.proofs.root.scale.Reads as reads
@@ -19,14 +19,14 @@ sub-shift c = omega (arith, (moved c).0)
 
 -- subnormal: shifted up, the exponent less by as much
 returns : tie.Need-returns
-returns c = scale-low c.before.args.b c.before.requires.0 c.if1.true
+returns c = scale_low c.before.args.b c.before.requires.0 c.if1.true
 
 -- normal: the leading bit is put back
 returns-2 : tie.Need-returns-2
-returns-2 c = scale-high c.before.args.b c.before.requires.1 c.if1.false
+returns-2 c = scale_high c.before.args.b c.before.requires.1 c.if1.false
 
-pub scale-spec : {M : Type 1} → statement M
-scale-spec =
+pub scale_spec : {M : Type 1} → statement M
+scale_spec =
     tie.close (tie.spec
     sub-shift
     (λ c. omega (arith, (moved c).1))

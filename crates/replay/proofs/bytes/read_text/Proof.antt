@@ -18,8 +18,8 @@ decreases-loop file buffer₀ count bytes₀ end here₀ i₀ buffer bytes here 
 loop-again : tie.Need-loop-preserved invariant-loop decreases-loop
 loop-again c = simp length-set (omega arith)
 
-pub read-text-spec : {M : Type 1} → statement M
-read-text-spec =
+pub read_text_spec : {M : Type 1} → statement M
+read_text_spec =
     tie.close
     (tie.spec invariant-loop decreases-loop
     (λ c κs. search rules) (λ c. search rules) (λ c κs. search rules) (λ c. search rules) (λ c. search rules)

@@ -24,8 +24,8 @@ returns-3 : tie.Need-returns-3
 unfolding after_of
 returns-3 c = simp (c.before.if1.false, c.counted2.ensures)
 
-pub after-spec : {M : Type 1} → statement M
-after-spec =
+pub after_spec : {M : Type 1} → statement M
+after_spec =
     tie.close (tie.spec
     (λ c κs. search rules) (λ c. search rules)
     returns

@@ -9,8 +9,8 @@ invariant-loop file buffer₀ here₀ turns₀ buffer here turns = Unit {0}
 abbrev decreases-loop : tie.decreases-loop
 decreases-loop file buffer₀ here₀ turns₀ buffer here turns = turns
 
-pub at-end-spec : {M : Type 1} → statement M
-at-end-spec =
+pub at_end_spec : {M : Type 1} → statement M
+at_end_spec =
     tie.close
     (tie.spec invariant-loop decreases-loop
     (λ c. search rules) (λ c κs. search rules) (λ c. search rules) (λ c. search rules) (λ c. search rules)

@@ -8,8 +8,8 @@ use Rattle.replay_lu.proofs.entries.lu.Tie as tie
 same_length : tie.Need-same-length
 same_length c = c.before.before.before.before.before.before.before.before.before.before.before.before.before.before.before.before.before.before.before.read_left.auto.1.1.1.1.0 ∙ c.before.before.before.before.before.before.before.before.before.before.before.before.before.before.before.before.before.before.before.before.before.before.before.before.before.before.before.before.before.before.before.read-words.auto.1.1.1.1.0
 
-pub lu-spec : {M : Type 1} → statement M
-lu-spec =
+pub lu_spec : {M : Type 1} → statement M
+lu_spec =
     tie.close
     (tie.spec
     (λ c κs. search rules) (λ c κs. search rules) (λ c κs. search rules) (λ c κs. search rules) (λ c κs. search rules)

@@ -19,8 +19,8 @@ same-length-3 c = c.before.before.before.before.before.before.before.before.befo
 same-length-4 : tie.Need-same-length-4
 same-length-4 c = c.before.before.before.before.before.before.before.before.before.before.before.before.before.before.before.before.before.before.before.before.before.before.before.before.before.before.before.before.before.before.before.before.before.before.before.before.before.before.read-factors.auto.1.1.1.1.1.1.0
 
-pub solve-spec : {M : Type 1} → statement M
-solve-spec =
+pub solve_spec : {M : Type 1} → statement M
+solve_spec =
     tie.close
     (tie.spec
     (λ c κs. search rules) (λ c κs. search rules) (λ c κs. search rules) (λ c κs. search rules) (λ c κs. search rules)

@@ -13,8 +13,8 @@ returns c = rw (eq-eqb _ _ c.before.before.if1.true, ← c.before.determinant.en
 returns-2 : tie.Need-returns-2
 returns-2 c = rw (ne_eqb _ _ c.before.before.if1.false, ← c.before.determinant2.ensures) c.same-hyperdual.ensures
 
-pub same-determinant-spec : {M : Type 1} → statement M
-same-determinant-spec =
+pub same_determinant_spec : {M : Type 1} → statement M
+same_determinant_spec =
     tie.close
     (tie.spec
     (λ c κs. search rules) (λ c κs. search rules) (λ c κs. search rules) (λ c κs. search rules)

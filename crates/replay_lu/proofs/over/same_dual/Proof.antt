@@ -7,8 +7,8 @@ use Rattle.replay_lu.proofs.over.same_dual.Tie as tie
 returns : tie.Need-returns
 returns c = rw c.before.before.before.answer.given.1 c.same-floats.ensures
 
-pub same-dual-spec : {M : Type 1} → statement M
-same-dual-spec =
+pub same_dual_spec : {M : Type 1} → statement M
+same_dual_spec =
     tie.close
     (tie.spec
     (λ c. search rules) (λ c. search rules) (λ c κs. search rules) (λ c. search rules)

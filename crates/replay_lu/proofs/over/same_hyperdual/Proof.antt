@@ -7,8 +7,8 @@ use Rattle.replay_lu.proofs.over.same_hyperdual.Tie as tie
 returns : tie.Need-returns
 returns c = rw c.before.before.before.answer.given.1 c.same-floats.ensures
 
-pub same-hyperdual-spec : {M : Type 1} → statement M
-same-hyperdual-spec =
+pub same_hyperdual_spec : {M : Type 1} → statement M
+same_hyperdual_spec =
     tie.close
     (tie.spec
     (λ c. search rules) (λ c. search rules) (λ c κs. search rules) (λ c. search rules)

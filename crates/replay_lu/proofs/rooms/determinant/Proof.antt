@@ -5,8 +5,8 @@ use borrow.Author.Rules.{rules}
 use Rattle.replay_lu.proofs.rooms.determinant.Statement.{statement}
 use Rattle.replay_lu.proofs.rooms.determinant.Tie as tie
 
-pub determinant-spec : {M : Type 1} → statement M
-determinant-spec =
+pub determinant_spec : {M : Type 1} → statement M
+determinant_spec =
     tie.close
     (tie.spec
     (λ c κs. search rules)

@@ -5,8 +5,8 @@ use borrow.Author.Rules.{rules}
 use Rattle.replay_lu.proofs.rooms.inverse.Statement.{statement}
 use Rattle.replay_lu.proofs.rooms.inverse.Tie as tie
 
-pub inverse-spec : {M : Type 1} → statement M
-inverse-spec =
+pub inverse_spec : {M : Type 1} → statement M
+inverse_spec =
     tie.close
     (tie.spec
     (λ c κs. search rules)

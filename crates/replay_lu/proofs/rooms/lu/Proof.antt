@@ -5,8 +5,8 @@ use borrow.Author.Rules.{rules}
 use Rattle.replay_lu.proofs.rooms.lu.Statement.{statement}
 use Rattle.replay_lu.proofs.rooms.lu.Tie as tie
 
-pub lu-spec : {M : Type 1} → statement M
-lu-spec =
+pub lu_spec : {M : Type 1} → statement M
+lu_spec =
     tie.close
     (tie.spec
     (λ c κs. search rules)

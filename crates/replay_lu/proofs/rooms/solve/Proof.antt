@@ -5,8 +5,8 @@ use borrow.Author.Rules.{rules}
 use Rattle.replay_lu.proofs.rooms.solve.Statement.{statement}
 use Rattle.replay_lu.proofs.rooms.solve.Tie as tie
 
-pub solve-spec : {M : Type 1} → statement M
-solve-spec =
+pub solve_spec : {M : Type 1} → statement M
+solve_spec =
     tie.close
     (tie.spec
     (λ c κs. search rules) (λ c κs. search rules)

@@ -5,7 +5,7 @@ use lib.Dec.{eqb}
 use lib.ListN.{length, replicate}
 use borrow.Author.Tests.{eq-eqb, ne_eqb}
 use Rattle.replay.proofs.Alike.{Alike}
-use Rattle.replay_market.proofs.Full.{full-none, full-more, full-not, full-all}
+use Rattle.replay_market.proofs.Full.{full_none, full_more, full_not, full_all}
 use Rattle.replay_market.proofs.compare.full_bytes.Statement.{statement}
 use Rattle.replay_market.proofs.compare.full_bytes.Tie as tie
 
@@ -15,13 +15,13 @@ invariant-loop byte bytes i₀ i = Alike eqb 0 0 (replicate (length bytes) byte)
 abbrev decreases-loop : tie.decreases-loop
 decreases-loop byte bytes i₀ i = length bytes - i
 
-pub full-bytes-spec : {M : Type 1} → statement M
-full-bytes-spec =
+pub full_bytes_spec : {M : Type 1} → statement M
+full_bytes_spec =
     tie.close
     (tie.spec invariant-loop decreases-loop
-    (λ c. full-none _ _ _ _)
+    (λ c. full_none _ _ _ _)
     (λ c. search rules)
-    (λ c. search (rules, full-not, ne_eqb))
+    (λ c. search (rules, full_not, ne_eqb))
     (λ c. search rules) (λ c. search rules)
-    (λ c. search (rules, full-more, eq-eqb))
-    (λ c. search (rules, full-all)))
+    (λ c. search (rules, full_more, eq-eqb))
+    (λ c. search (rules, full_all)))

@@ -6,25 +6,25 @@ use lib.Dec.{eqb}
 use borrow.Author.Tests.{eq-eqb, ne_eqb}
 use Rattle.algebra.specs.Outcome.{Outcome, number_of}
 use Rattle.replay_market.specs.declared.compare.Recorded.{Recorded}
-use Rattle.replay_market.specs.Cases.{countIn, sameAnswer}
+use Rattle.replay_market.specs.Cases.{count_in, same_answer}
 use borrow.Author.Rules.{rules}
 use Rattle.replay_market.proofs.compare.same_answer.Statement.{statement}
 use Rattle.replay_market.proofs.compare.same_answer.Tie as tie
 
 module _ (wanted : Recorded) (answer : Outcome ℕ) (number : ℕ) (told : number ≡ number_of answer) where
-  number-differs : (wanted.number ≡ number → ⊥) → false ≡ sameAnswer wanted answer
-  unfolding sameAnswer
-  number-differs h = rw (← told, ne_eqb _ _ h)
+  number_differs : (wanted.number ≡ number → ⊥) → false ≡ same_answer wanted answer
+  unfolding same_answer
+  number_differs h = rw (← told, ne_eqb _ _ h)
 
-  by_count : wanted.number ≡ number → (count : ℕ) → count ≡ countIn answer → eqb wanted.count count ≡ sameAnswer wanted answer
-  unfolding sameAnswer
+  by_count : wanted.number ≡ number → (count : ℕ) → count ≡ count_in answer → eqb wanted.count count ≡ same_answer wanted answer
+  unfolding same_answer
   by_count e count told-count = rw (← told, eq-eqb _ _ e, told-count)
 
-pub same-answer-spec : {M : Type 1} → statement M
-same-answer-spec =
+pub same_answer_spec : {M : Type 1} → statement M
+same_answer_spec =
     tie.close
     (tie.spec
     (λ c κs. search rules) (λ c. search rules)
-    (λ c. search (rules, number-differs))
+    (λ c. search (rules, number_differs))
     (λ c κs. search rules)
     (λ c. search (rules, by_count)))

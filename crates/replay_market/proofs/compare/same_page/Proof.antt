@@ -9,14 +9,14 @@ use lib.ListN.{length, take, drop, length-drop}
 use lib.Seq.{take_all, length-take-le}
 use Rattle.replay.specs.Same.{same_numbers}
 use Rattle.replay.proofs.Alike.{lengths_differ}
-use Rattle.replay_market.specs.Cases.{fullNumbers, samePage}
+use Rattle.replay_market.specs.Cases.{full_numbers, same_page}
 use borrow.Author.Rules.{rules}
 use Rattle.replay_market.proofs.compare.same_page.Statement.{statement}
 use Rattle.replay_market.proofs.compare.same_page.Tie as tie
 
 module _ (text bytes : List ℕ) where
-  too_few : length bytes < length text → false ≡ samePage text bytes
-  unfolding samePage
+  too_few : length bytes < length text → false ≡ same_page text bytes
+  unfolding same_page
   too_few h = rw (take_all (length text) bytes (omega arith), ← lengths_differ eqb text bytes (λ e. omega arith))
 
   -- a part to the end is all that is left
@@ -24,21 +24,21 @@ module _ (text bytes : List ℕ) where
   all_left = take_all (length bytes - length text) (drop (length text) bytes) (omega (arith, length-drop (length text) bytes))
 
   module _ (a : Bool) (told : a ≡ same_numbers text (take (length text) bytes)) where
-    text-differs : a ≡ false → false ≡ samePage text bytes
-    unfolding samePage
-    text-differs h = rw (← told, h)
+    text_differs : a ≡ false → false ≡ same_page text bytes
+    unfolding same_page
+    text_differs h = rw (← told, h)
 
-    by-rest : a ≡ true → (r : Bool) → r ≡ fullNumbers 0 (take (length bytes - length text) (drop (length text) bytes)) → r ≡ samePage text bytes
-    unfolding samePage
-    by-rest h r e = rw (← told, h) (e ∙ ap (fullNumbers 0) all_left)
+    by_rest : a ≡ true → (r : Bool) → r ≡ full_numbers 0 (take (length bytes - length text) (drop (length text) bytes)) → r ≡ same_page text bytes
+    unfolding same_page
+    by_rest h r e = rw (← told, h) (e ∙ ap (full_numbers 0) all_left)
 
-pub same-page-spec : {M : Type 1} → statement M
-same-page-spec =
+pub same_page_spec : {M : Type 1} → statement M
+same_page_spec =
     tie.close
     (tie.spec
     (λ c. search (rules, too_few))
     (λ c. sym (length-take-le _ _ (search rules)))
     (λ c. search rules) (λ c. search rules) (λ c. search rules)
     (λ c κs. search rules) (λ c κs. search rules)
-    (λ c. search (rules, by-rest))
-    (λ c. search (rules, text-differs)))
+    (λ c. search (rules, by_rest))
+    (λ c. search (rules, text_differs)))

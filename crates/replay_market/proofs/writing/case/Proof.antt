@@ -5,8 +5,8 @@ use borrow.Author.Rules.{rules}
 use Rattle.replay_market.proofs.writing.case.Statement.{statement}
 use Rattle.replay_market.proofs.writing.case.Tie as tie
 
-pub case-spec : {M : Type 1} → statement M
-case-spec =
+pub case_spec : {M : Type 1} → statement M
+case_spec =
     tie.close
     (tie.spec
     (λ c. search rules) (λ c. search rules) (λ c. search rules) (λ c κs. search rules) (λ c. search rules)

@@ -1,14 +1,14 @@
 -- Each arm is the method of its number, the last arm none: laws over any record (Answered).
 use borrow.Author.Rules.{rules}
-use Rattle.dual3.specs.Rules.{dual3Algebra, dual3Layout}
-use Rattle.replay_methods.specs.Methods.{sameMethod}
-use Rattle.replay_methods.proofs.Answered.{gives-record, gives-truth, asks_nothing}
+use Rattle.dual3.specs.Rules.{dual3_algebra, dual3_layout}
+use Rattle.replay_methods.specs.Methods.{same_method}
+use Rattle.replay_methods.proofs.Answered.{gives_record, gives_truth, asks_nothing}
 use Rattle.replay_methods.proofs.of_dual3.same_method.Statement.{statement}
 use Rattle.replay_methods.proofs.of_dual3.same_method.Tie as tie
 
-pub same-method-spec : {M : Type 1} → statement M
-unfolding sameMethod
-same-method-spec =
+pub same_method_spec : {M : Type 1} → statement M
+unfolding same_method
+same_method_spec =
     tie.close
     (tie.spec
     (λ c κs. search rules) (λ c κs. search rules) (λ c κs. search rules) (λ c κs. search rules) (λ c κs. search rules)
@@ -17,9 +17,9 @@ same-method-spec =
     (λ c κs. search rules) (λ c κs. search rules) (λ c κs. search rules) (λ c κs. search rules) (λ c κs. search rules)
     (λ c κs. search rules) (λ c κs. search rules) (λ c κs. search rules) (λ c κs. search rules) (λ c κs. search rules)
     (λ c κs. search rules) (λ c κs. search rules) (λ c κs. search rules) (λ c κs. search rules) (λ c κs. search rules)
-    (λ c. search (rules, gives-record dual3Algebra dual3Layout)) (λ c. search (rules, gives-record dual3Algebra dual3Layout)) (λ c. search (rules, gives-record dual3Algebra dual3Layout))
-    (λ c. search (rules, gives-record dual3Algebra dual3Layout)) (λ c. search (rules, gives-record dual3Algebra dual3Layout)) (λ c. search (rules, gives-record dual3Algebra dual3Layout))
-    (λ c. search (rules, gives-truth dual3Algebra dual3Layout)) (λ c. search (rules, gives-truth dual3Algebra dual3Layout)) (λ c. search (rules, gives-truth dual3Algebra dual3Layout))
-    (λ c. search (rules, gives-truth dual3Algebra dual3Layout)) (λ c. search (rules, gives-truth dual3Algebra dual3Layout)) (λ c. search (rules, gives-truth dual3Algebra dual3Layout))
-    (λ c. search (rules, gives-truth dual3Algebra dual3Layout)) (λ c. search (rules, gives-truth dual3Algebra dual3Layout)) (λ c. search (rules, gives-truth dual3Algebra dual3Layout))
-    (λ c. search (rules, asks_nothing dual3Algebra dual3Layout)))
+    (λ c. search (rules, gives_record dual3_algebra dual3_layout)) (λ c. search (rules, gives_record dual3_algebra dual3_layout)) (λ c. search (rules, gives_record dual3_algebra dual3_layout))
+    (λ c. search (rules, gives_record dual3_algebra dual3_layout)) (λ c. search (rules, gives_record dual3_algebra dual3_layout)) (λ c. search (rules, gives_record dual3_algebra dual3_layout))
+    (λ c. search (rules, gives_truth dual3_algebra dual3_layout)) (λ c. search (rules, gives_truth dual3_algebra dual3_layout)) (λ c. search (rules, gives_truth dual3_algebra dual3_layout))
+    (λ c. search (rules, gives_truth dual3_algebra dual3_layout)) (λ c. search (rules, gives_truth dual3_algebra dual3_layout)) (λ c. search (rules, gives_truth dual3_algebra dual3_layout))
+    (λ c. search (rules, gives_truth dual3_algebra dual3_layout)) (λ c. search (rules, gives_truth dual3_algebra dual3_layout)) (λ c. search (rules, gives_truth dual3_algebra dual3_layout))
+    (λ c. search (rules, asks_nothing dual3_algebra dual3_layout)))

@@ -1,7 +1,7 @@
 -- The records are read of the words, then the method is compared: one law over any record (Answered).
 use borrow.Author.Rules.{rules}
-use Rattle.hyperhyperdual.proofs.Flat.{hyper-hyper-dual-laws}
-use Rattle.replay_methods.proofs.Answered.{same-lent}
+use Rattle.hyperhyperdual.proofs.Flat.{hyper_hyper_dual_laws}
+use Rattle.replay_methods.proofs.Answered.{same_lent}
 use Rattle.replay_methods.proofs.of_hyperhyperdual.same.Statement.{statement}
 use Rattle.replay_methods.proofs.of_hyperhyperdual.same.Tie as tie
 
@@ -10,4 +10,4 @@ same_spec =
     tie.close
     (tie.spec
     (λ c. search rules) (λ c κs. search rules) (λ c. search rules) (λ c κs. search rules) (λ c. search rules) (λ c κs. search rules) (λ c κs. search rules) (λ c κs. search rules)
-    (λ c. search (rules, same-lent hyper-hyper-dual-laws)))
+    (λ c. search (rules, same_lent hyper_hyper_dual_laws)))

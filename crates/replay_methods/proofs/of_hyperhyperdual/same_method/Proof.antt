@@ -1,14 +1,14 @@
 -- Each arm is the method of its number, the last arm none: laws over any record (Answered).
 use borrow.Author.Rules.{rules}
-use Rattle.hyperhyperdual.specs.Rules.{hyperHyperDualAlgebra, hyperHyperDualLayout}
-use Rattle.replay_methods.specs.Methods.{sameMethod}
-use Rattle.replay_methods.proofs.Answered.{gives-record, gives-truth, asks_nothing}
+use Rattle.hyperhyperdual.specs.Rules.{hyper_hyper_dual_algebra, hyper_hyper_dual_layout}
+use Rattle.replay_methods.specs.Methods.{same_method}
+use Rattle.replay_methods.proofs.Answered.{gives_record, gives_truth, asks_nothing}
 use Rattle.replay_methods.proofs.of_hyperhyperdual.same_method.Statement.{statement}
 use Rattle.replay_methods.proofs.of_hyperhyperdual.same_method.Tie as tie
 
-pub same-method-spec : {M : Type 1} → statement M
-unfolding sameMethod
-same-method-spec =
+pub same_method_spec : {M : Type 1} → statement M
+unfolding same_method
+same_method_spec =
     tie.close
     (tie.spec
     (λ c κs. search rules) (λ c κs. search rules) (λ c κs. search rules) (λ c κs. search rules) (λ c κs. search rules)
@@ -17,9 +17,9 @@ same-method-spec =
     (λ c κs. search rules) (λ c κs. search rules) (λ c κs. search rules) (λ c κs. search rules) (λ c κs. search rules)
     (λ c κs. search rules) (λ c κs. search rules) (λ c κs. search rules) (λ c κs. search rules) (λ c κs. search rules)
     (λ c κs. search rules) (λ c κs. search rules) (λ c κs. search rules) (λ c κs. search rules) (λ c κs. search rules)
-    (λ c. search (rules, gives-record hyperHyperDualAlgebra hyperHyperDualLayout)) (λ c. search (rules, gives-record hyperHyperDualAlgebra hyperHyperDualLayout)) (λ c. search (rules, gives-record hyperHyperDualAlgebra hyperHyperDualLayout))
-    (λ c. search (rules, gives-record hyperHyperDualAlgebra hyperHyperDualLayout)) (λ c. search (rules, gives-record hyperHyperDualAlgebra hyperHyperDualLayout)) (λ c. search (rules, gives-record hyperHyperDualAlgebra hyperHyperDualLayout))
-    (λ c. search (rules, gives-truth hyperHyperDualAlgebra hyperHyperDualLayout)) (λ c. search (rules, gives-truth hyperHyperDualAlgebra hyperHyperDualLayout)) (λ c. search (rules, gives-truth hyperHyperDualAlgebra hyperHyperDualLayout))
-    (λ c. search (rules, gives-truth hyperHyperDualAlgebra hyperHyperDualLayout)) (λ c. search (rules, gives-truth hyperHyperDualAlgebra hyperHyperDualLayout)) (λ c. search (rules, gives-truth hyperHyperDualAlgebra hyperHyperDualLayout))
-    (λ c. search (rules, gives-truth hyperHyperDualAlgebra hyperHyperDualLayout)) (λ c. search (rules, gives-truth hyperHyperDualAlgebra hyperHyperDualLayout)) (λ c. search (rules, gives-truth hyperHyperDualAlgebra hyperHyperDualLayout))
-    (λ c. search (rules, asks_nothing hyperHyperDualAlgebra hyperHyperDualLayout)))
+    (λ c. search (rules, gives_record hyper_hyper_dual_algebra hyper_hyper_dual_layout)) (λ c. search (rules, gives_record hyper_hyper_dual_algebra hyper_hyper_dual_layout)) (λ c. search (rules, gives_record hyper_hyper_dual_algebra hyper_hyper_dual_layout))
+    (λ c. search (rules, gives_record hyper_hyper_dual_algebra hyper_hyper_dual_layout)) (λ c. search (rules, gives_record hyper_hyper_dual_algebra hyper_hyper_dual_layout)) (λ c. search (rules, gives_record hyper_hyper_dual_algebra hyper_hyper_dual_layout))
+    (λ c. search (rules, gives_truth hyper_hyper_dual_algebra hyper_hyper_dual_layout)) (λ c. search (rules, gives_truth hyper_hyper_dual_algebra hyper_hyper_dual_layout)) (λ c. search (rules, gives_truth hyper_hyper_dual_algebra hyper_hyper_dual_layout))
+    (λ c. search (rules, gives_truth hyper_hyper_dual_algebra hyper_hyper_dual_layout)) (λ c. search (rules, gives_truth hyper_hyper_dual_algebra hyper_hyper_dual_layout)) (λ c. search (rules, gives_truth hyper_hyper_dual_algebra hyper_hyper_dual_layout))
+    (λ c. search (rules, gives_truth hyper_hyper_dual_algebra hyper_hyper_dual_layout)) (λ c. search (rules, gives_truth hyper_hyper_dual_algebra hyper_hyper_dual_layout)) (λ c. search (rules, gives_truth hyper_hyper_dual_algebra hyper_hyper_dual_layout))
+    (λ c. search (rules, asks_nothing hyper_hyper_dual_algebra hyper_hyper_dual_layout)))

@@ -9,7 +9,7 @@ returns : tie.Need-returns
 unfolding joined
 returns c = search rules
 
-pub join-spec : {M : Type 1} → statement M
-join-spec = tie.close (tie.spec
+pub join_spec : {M : Type 1} → statement M
+join_spec = tie.close (tie.spec
     (λ c. search rules)
     returns)

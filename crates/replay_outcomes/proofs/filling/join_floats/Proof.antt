@@ -3,7 +3,7 @@ use borrow.Author.Rules.{rules}
 use Prim.Native.Nat.{◌-◌}
 use lib.ListN.{length}
 use lib.Ieee.{binary64, nan, to_bits}
-use Rattle.replay_outcomes.proofs.Join.{Joining, joining-none, joining-more, joining-all}
+use Rattle.replay_outcomes.proofs.Join.{Joining, joining_none, joining_more, joining_all}
 use Rattle.replay_outcomes.proofs.filling.join_floats.Statement.{statement}
 use Rattle.replay_outcomes.proofs.filling.join_floats.Tie as tie
 
@@ -13,12 +13,12 @@ invariant-loop start floats so-far₀ i₀ so_far i = Joining (to_bits binary64)
 abbrev decreases-loop : tie.decreases-loop
 decreases-loop start floats so-far₀ i₀ so_far i = length floats - i
 
-pub join-floats-spec : {M : Type 1} → statement M
-join-floats-spec =
+pub join_floats_spec : {M : Type 1} → statement M
+join_floats_spec =
     tie.close
     (tie.spec invariant-loop decreases-loop
-    (λ c. joining-none _ _ _ _)
+    (λ c. joining_none _ _ _ _)
     (λ c. search rules) (λ c. search rules) (λ c κs. search rules) (λ c κs. search rules) (λ c. search rules)
     (λ c. search rules)
-    (λ c. search (rules, joining-more))
-    (λ c. search (rules, joining-all)))
+    (λ c. search (rules, joining_more))
+    (λ c. search (rules, joining_all)))

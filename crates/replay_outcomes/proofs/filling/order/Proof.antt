@@ -13,8 +13,8 @@ invariant-loop one other place value out₀ length₀ i₀ out i = (i ≤ length
 abbrev decreases-loop : tie.decreases-loop
 decreases-loop one other place value out₀ length₀ i₀ out i = length out - i
 
-pub order-spec : {M : Type 1} → statement M
-order-spec =
+pub order_spec : {M : Type 1} → statement M
+order_spec =
     tie.close
     (tie.spec invariant-loop decreases-loop
     (λ c. search rules) (λ c κs. search rules) (λ c. search rules) (λ c. search rules) (λ c. search rules)

@@ -13,8 +13,8 @@ invariant-loop style start out₀ x₀ i₀ out x i = (i ≤ length out) × (len
 abbrev decreases-loop : tie.decreases-loop
 decreases-loop style start out₀ x₀ i₀ out x i = length out - i
 
-pub words-spec : {M : Type 1} → statement M
-words-spec =
+pub words_spec : {M : Type 1} → statement M
+words_spec =
     tie.close
     (tie.spec invariant-loop decreases-loop
     (λ c. search rules) (λ c κs. search rules) (λ c κs. search rules) (λ c κs. search rules) (λ c. search rules)

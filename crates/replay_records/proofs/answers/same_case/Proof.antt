@@ -11,8 +11,8 @@ both a s m r e told f = rw (sym e ∙ told) f
 first : (a s m : Bool) → s ≡ a → s ≡ false → false ≡ (a && m)
 first a s m e told = rw (sym e ∙ told)
 
-pub same-case-spec : {M : Type 1} → statement M
-same-case-spec = tie.close (tie.spec
+pub same_case_spec : {M : Type 1} → statement M
+same_case_spec = tie.close (tie.spec
     (λ c κs. search rules) (λ c κs. search rules)
     (λ c. search (rules, both))
     (λ c. search (rules, first)))

@@ -4,8 +4,8 @@ use Rattle.replay_records.proofs.ByKind.{same_by}
 use Rattle.replay_records.proofs.kinds.same_method.Statement.{statement}
 use Rattle.replay_records.proofs.kinds.same_method.Tie as tie
 
-pub same-method-spec : {M : Type 1} → statement M
-same-method-spec =
+pub same_method_spec : {M : Type 1} → statement M
+same_method_spec =
     tie.close
     (tie.spec
     (λ c. search rules) (λ c κs. search rules) (λ c. search rules) (λ c κs. search rules) (λ c. search rules) (λ c κs. search rules)

@@ -11,8 +11,8 @@ invariant-loop number words i₀ t4 i = i ≤ length words
 abbrev decreases-loop : tie.decreases-loop
 decreases-loop number words i₀ t4 i = length words - i
 
-pub answer-spec : {M : Type 1} → statement M
-answer-spec =
+pub answer_spec : {M : Type 1} → statement M
+answer_spec =
     tie.close
     (tie.spec invariant-loop decreases-loop
     (λ c κs. search rules) (λ c. search rules) (λ c. search rules) (λ c κs. search rules) (λ c. search rules)

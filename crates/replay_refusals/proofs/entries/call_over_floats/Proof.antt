@@ -5,8 +5,8 @@ use borrow.Author.Rules.{rules}
 use Rattle.replay_refusals.proofs.entries.call_over_floats.Statement.{statement}
 use Rattle.replay_refusals.proofs.entries.call_over_floats.Tie as tie
 
-pub call-over-floats-spec : {M : Type 1} → statement M
-call-over-floats-spec =
+pub call_over_floats_spec : {M : Type 1} → statement M
+call_over_floats_spec =
     tie.close
     (tie.spec
     (λ c. search rules) (λ c κs. search rules) (λ c. search rules) (λ c κs. search rules) (λ c. search rules)

@@ -5,8 +5,8 @@ use borrow.Author.Rules.{rules}
 use Rattle.replay_refusals.proofs.entries.call_over_words.Statement.{statement}
 use Rattle.replay_refusals.proofs.entries.call_over_words.Tie as tie
 
-pub call-over-words-spec : {M : Type 1} → statement M
-call-over-words-spec =
+pub call_over_words_spec : {M : Type 1} → statement M
+call_over_words_spec =
     tie.close
     (tie.spec
     (λ c. search rules) (λ c κs. search rules) (λ c. search rules) (λ c κs. search rules) (λ c. search rules)

@@ -12,8 +12,8 @@ invariant-loop file buffer₀ pool count parts words₀ here₀ whole₀ at₀ l
 abbrev decreases-loop : tie.decreases-loop
 decreases-loop file buffer₀ pool count parts words₀ here₀ whole₀ at₀ left₀ buffer words here whole at left = left
 
-pub read-records-spec : {M : Type 1} → statement M
-read-records-spec =
+pub read_records_spec : {M : Type 1} → statement M
+read_records_spec =
     tie.close
     (tie.spec invariant-loop decreases-loop
     (λ c. search rules) (λ c. search rules) (λ c. search rules) (λ c. search rules) (λ c κs. search rules)

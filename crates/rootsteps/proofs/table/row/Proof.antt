@@ -1,6 +1,6 @@
 -- Five parts, one after the other; the last two cells are of what was found after the bit. Assumes nothing.
 use borrow.Author.Rules.{rules}
-use Rattle.rootsteps.proofs.Lines.{row-parts}
+use Rattle.rootsteps.proofs.Lines.{row_parts}
 use Rattle.rootsteps.proofs.table.row.Statement.{statement}
 use Rattle.rootsteps.proofs.table.row.Tie as tie
 
@@ -12,10 +12,10 @@ returns c =
     let second = third.before.before.before.before.before in
     let first = second.before.before.before.before.before in
     let start = first.before.before.before.before.before in
-    row-parts _ _ _ _ _ _ start.args.found start.args.next start.requires.1 first.labelled.ensures second.labelled2.ensures third.labelled3.ensures fourth.fits2.ensures fifth.row-end.ensures
+    row_parts _ _ _ _ _ _ start.args.found start.args.next start.requires.1 first.labelled.ensures second.labelled2.ensures third.labelled3.ensures fourth.fits2.ensures fifth.row-end.ensures
 
-pub row-spec : {M : Type 1} → statement M
-row-spec =
+pub row_spec : {M : Type 1} → statement M
+row_spec =
     tie.close
     (tie.spec
     (λ c. search rules) (λ c. search rules)

@@ -9,8 +9,8 @@ returns : tie.Need-returns
 unfolding exchange
 returns c = cc
 
-pub exchange-spec : {M : Type 1} → statement M
-exchange-spec =
+pub exchange_spec : {M : Type 1} → statement M
+exchange_spec =
     tie.close
     (tie.spec
     (λ c κs. search rules) (λ c κs. search rules) (λ c κs. search rules) (λ c κs. search rules) (λ c. search rules)

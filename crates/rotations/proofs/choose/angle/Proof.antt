@@ -3,5 +3,5 @@ use borrow.Author.Rules.{rules}
 use Rattle.rotations.proofs.choose.angle.Statement.{statement}
 use Rattle.rotations.proofs.choose.angle.Tie as tie
 
-pub angle-spec : {M : Type 1} → statement M
-angle-spec = tie.close (tie.spec (λ c κs. search rules) (λ c κs. search rules) (λ c κs. search rules) (λ c. cc))
+pub angle_spec : {M : Type 1} → statement M
+angle_spec = tie.close (tie.spec (λ c κs. search rules) (λ c κs. search rules) (λ c κs. search rules) (λ c. cc))

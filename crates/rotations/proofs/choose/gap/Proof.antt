@@ -3,5 +3,5 @@ use borrow.Author.Rules.{rules}
 use Rattle.rotations.proofs.choose.gap.Statement.{statement}
 use Rattle.rotations.proofs.choose.gap.Tie as tie
 
-pub gap-spec : {M : Type 1} → statement M
-gap-spec = tie.close (tie.spec (λ c κs. search rules) (λ c κs. search rules) (λ c. cc))
+pub gap_spec : {M : Type 1} → statement M
+gap_spec = tie.close (tie.spec (λ c κs. search rules) (λ c κs. search rules) (λ c. cc))

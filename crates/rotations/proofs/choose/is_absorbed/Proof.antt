@@ -9,7 +9,7 @@ returns : tie.Need-returns
 unfolding absorbed
 returns c = cc
 
-pub is-absorbed-spec : {M : Type 1} → statement M
-is-absorbed-spec = tie.close (tie.spec
+pub is_absorbed_spec : {M : Type 1} → statement M
+is_absorbed_spec = tie.close (tie.spec
     (λ c κs. search rules) (λ c κs. search rules) (λ c κs. search rules)
     returns)

@@ -1,8 +1,8 @@
 -- Each arm of the match is a case of the definition's choice, which was made from the entry and the two diagonal entries as they were.
 use borrow.Author.Rules.{rules}
-use Rattle.dual.specs.Rules.{dualAlgebra, dualRecords}
-use Rattle.rotations.proofs.Kept.{sized-kept}
-use Rattle.rotations.proofs.Turned.{Entries, pair-keep, pair-clear, pair-rotate}
+use Rattle.dual.specs.Rules.{dual_algebra, dual_records}
+use Rattle.rotations.proofs.Kept.{sized_kept}
+use Rattle.rotations.proofs.Turned.{Entries, pair_keep, pair_clear, pair_rotate}
 use Rattle.rotations.proofs.pair.pair.Statement.{statement}
 use Rattle.rotations.proofs.pair.pair.Tie as tie
 
@@ -12,7 +12,7 @@ start at = at.before.before.before.before.before.before.before.before.before.bef
 
 -- what the choice was made from
 read : (at : tie.After-choose) → let s = (start at).args in
-    Entries dualAlgebra s.n s.p s.q (dualRecords s.a.now) (dualRecords s.d.now) at.before.before.before.before.before.get.result at.before.before.before.read.result at.before.read2.result
+    Entries dual_algebra s.n s.p s.q (dual_records s.a.now) (dual_records s.d.now) at.before.before.before.before.before.get.result at.before.before.before.read.result at.before.read2.result
 read at = record { entry = search rules; first = search rules; second = search rules }
 
 -- what the caller showed
@@ -23,20 +23,20 @@ rotate-requires c κs = let s = (start c.before.before.before.before.before.befo
 returns : tie.Need-returns
 returns c =
     let at = c.before.before in
-    ((start at).requires.0, (pair-keep dualAlgebra _ _ _ _ _ _ _ _ _ _ _ _ _ _ (read at) at.choose.ensures c.enum_told.given.1, search rules))
+    ((start at).requires.0, (pair_keep dual_algebra _ _ _ _ _ _ _ _ _ _ _ _ _ _ (read at) at.choose.ensures c.enum_told.given.1, search rules))
 
 -- cleared: the entry alone is zero
 returns-2 : tie.Need-returns-2
 returns-2 c =
     let at = c.before.before.before.before.before.before in
     let sized = (start at).requires.0 in
-    (search (rules, sized-kept), (pair-clear dualAlgebra _ _ _ _ _ _ _ _ _ _ _ _ _ _ (read at) at.choose.ensures _ c.before.before.before.before.enum-told2.given.1 (search rules), search rules))
+    (search (rules, sized_kept), (pair_clear dual_algebra _ _ _ _ _ _ _ _ _ _ _ _ _ _ (read at) at.choose.ensures _ c.before.before.before.before.enum-told2.given.1 (search rules), search rules))
 
 -- rotated: by the angle of the three entries
 returns-3 : tie.Need-returns-3
 returns-3 c =
     let at = c.before.before.before.before.before.before.before.before.before.before.before.before.before.before.before.before in
-    (search rules, (pair-rotate dualAlgebra _ _ _ _ _ _ _ _ _ _ _ _ _ _ (read at) at.choose.ensures _ _ c.before.before.before.before.before.before.before.before.before.before.before.before.before.before.enum-told3.given.1 c.before.before.before.before.before.before.before.before.before.before.before.before.before.angle.ensures (search rules), search rules))
+    (search rules, (pair_rotate dual_algebra _ _ _ _ _ _ _ _ _ _ _ _ _ _ (read at) at.choose.ensures _ _ c.before.before.before.before.before.before.before.before.before.before.before.before.before.before.enum-told3.given.1 c.before.before.before.before.before.before.before.before.before.before.before.before.before.angle.ensures (search rules), search rules))
 
 pub pair_spec : {M : Type 1} → statement M
 pair_spec =

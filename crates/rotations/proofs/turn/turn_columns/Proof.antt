@@ -1,31 +1,31 @@
 -- The loop keeps: what is left to turn gives the columns whole.
 use borrow.Author.Rules.{rules}
 use Prim.Native.Nat.{◌-◌}
-use Rattle.dual.specs.Rules.{dualAlgebra, dualRecords}
-use Rattle.dual.proofs.Flat.{dual-laws}
-use Rattle.matrices.proofs.Turns.{Running, run-turn, run_end}
+use Rattle.dual.specs.Rules.{dual_algebra, dual_records}
+use Rattle.dual.proofs.Flat.{dual_laws}
+use Rattle.matrices.proofs.Turns.{Running, run_turn, run_end}
 use Rattle.matrices.specs.Matrix.{Square}
-use Rattle.rotations.specs.Rotation.{turn, turnColumns}
+use Rattle.rotations.specs.Rotation.{turn, turn_columns}
 use Rattle.rotations.proofs.turn.turn_columns.Statement.{statement}
 use Rattle.rotations.proofs.turn.turn_columns.Tie as tie
 
 abbrev invariant-loop : tie.invariant-loop
-invariant-loop n a₀ s tau p q rows j₀ a j = Square 2 n a × Running dual-laws (λ j. turn dualAlgebra n s tau j p j q) rows a₀ a j (turnColumns dualAlgebra n s tau p q rows (dualRecords a₀))
+invariant-loop n a₀ s tau p q rows j₀ a j = Square 2 n a × Running dual_laws (λ j. turn dual_algebra n s tau j p j q) rows a₀ a j (turn_columns dual_algebra n s tau p q rows (dual_records a₀))
 
 abbrev decreases-loop : tie.decreases-loop
 decreases-loop n a₀ s tau p q rows j₀ a j = rows - j
 
 -- before the first turn the whole is left to run
 loop-holds : tie.Need-loop-init invariant-loop decreases-loop
-unfolding turnColumns
+unfolding turn_columns
 loop-holds c = search rules
 
-pub turn-columns-spec : {M : Type 1} → statement M
-turn-columns-spec =
+pub turn_columns_spec : {M : Type 1} → statement M
+turn_columns_spec =
     tie.close
     (tie.spec invariant-loop decreases-loop
     loop-holds
     (λ c κs. search rules) (λ c. search rules) (λ c. search rules)
-    (λ c. search (rules, run-turn dual-laws))
+    (λ c. search (rules, run_turn dual_laws))
     (λ c. search rules)
-    (λ c. search (rules, run_end dual-laws)))
+    (λ c. search (rules, run_end dual_laws)))

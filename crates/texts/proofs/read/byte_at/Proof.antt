@@ -4,8 +4,8 @@ use Rattle.texts.proofs.Digits.{past_end}
 use Rattle.texts.proofs.read.byte_at.Statement.{statement}
 use Rattle.texts.proofs.read.byte_at.Tie as tie
 
-pub byte-at-spec : {M : Type 1} → statement M
-byte-at-spec =
+pub byte_at_spec : {M : Type 1} → statement M
+byte_at_spec =
     tie.close
     (tie.spec
     (λ c. search rules) (λ c. search rules)

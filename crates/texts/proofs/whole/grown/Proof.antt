@@ -1,13 +1,13 @@
 -- The two answers, by whether the number is above the limit.
 use borrow.Author.Rules.{rules}
-use Rattle.texts.proofs.WholeNumbers.{grown-more, grown-stays}
+use Rattle.texts.proofs.WholeNumbers.{grown_more, grown_stays}
 use Rattle.texts.proofs.whole.grown.Statement.{statement}
 use Rattle.texts.proofs.whole.grown.Tie as tie
 
-pub grown-spec : {M : Type 1} → statement M
-grown-spec =
+pub grown_spec : {M : Type 1} → statement M
+grown_spec =
     tie.close
     (tie.spec
     (λ c. search rules) (λ c. search rules)
-    (λ c. search (rules, grown-more))
-    (λ c. search (rules, grown-stays)))
+    (λ c. search (rules, grown_more))
+    (λ c. search (rules, grown_stays)))

@@ -4,8 +4,8 @@ use Rattle.texts.proofs.WholeNumbers.{last_none, last_some}
 use Rattle.texts.proofs.whole.last.Statement.{statement}
 use Rattle.texts.proofs.whole.last.Tie as tie
 
-pub last-spec : {M : Type 1} → statement M
-last-spec =
+pub last_spec : {M : Type 1} → statement M
+last_spec =
     tie.close
     (tie.spec
     (λ c. search (rules, last_none))

@@ -15,8 +15,8 @@ returns-2 : tie.Need-returns-2
 unfolding written
 returns-2 c = simp (le-ltb _ _ c.if1.false)
 
-pub byte-spec : {M : Type 1} → statement M
-byte-spec = tie.close (tie.spec
+pub byte_spec : {M : Type 1} → statement M
+byte_spec = tie.close (tie.spec
     (λ c. search rules) (λ c. search rules) (λ c. search rules)
     returns
     returns-2)
