@@ -1,5 +1,8 @@
 // The elementary functions of impl_derivatives.rs and sph_j1_series, once for the five record types: the series f0 to f3 of each function at a real
 // part, the requests, and the plan that a record follows for a request.
+
+#![tactic(auto)]
+
 ghost use Rattle.std.specs.Prelude.{◌≡◌, ◌≤◌, nat_abs};
 ghost use Rattle.refusals.specs.Largest as largest;
 ghost use Rattle.derivatives.specs.Plan.{plan_of, plan_powi, plan_powf, is_small, small};

@@ -1,5 +1,8 @@
 // Dual numbers for first derivatives: datatypes/dual.rs. The operators of macros.rs are in operations.rt, the functions of impl_derivatives.rs
 // in functions.rt, records in flat floats in records.rt.
+
+#![tactic(auto)]
+
 mod functions;
 mod operations;
 mod records;

@@ -1,4 +1,7 @@
 // Calls over `Dual2`: three words a record, re, v1 and v2.
+
+#![tactic(auto)]
+
 ghost use Rattle.std.specs.Prelude.{◌≡◌, ◌++◌, ◌+◌, length};
 ghost use Rattle.algebra.specs.Outcome.{map_outcome};
 ghost use Rattle.dual2.specs.Rules.{dual2_layout, outcome};

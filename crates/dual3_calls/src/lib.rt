@@ -1,4 +1,7 @@
 // Calls over `Dual3`: four words a record, re, v1, v2 and v3.
+
+#![tactic(auto)]
+
 ghost use Rattle.std.specs.Prelude.{◌≡◌, ◌++◌, ◌+◌, length};
 ghost use Rattle.algebra.specs.Outcome.{map_outcome};
 ghost use Rattle.dual3.specs.Rules.{dual3_layout, outcome};

@@ -1,4 +1,7 @@
 // Calls over `Dual`: two words a record, re and eps.
+
+#![tactic(auto)]
+
 ghost use Rattle.std.specs.Prelude.{◌≡◌, ◌++◌, ◌+◌, length};
 ghost use Rattle.algebra.specs.Outcome.{map_outcome};
 ghost use Rattle.dual.specs.Rules.{dual_layout, outcome};

@@ -1,5 +1,8 @@
 // LU column by column, and the determinant.
 // Inner: for `dual_lu`, which has the entries. Its functions have a `requires`, which that crate shows.
+
+#![tactic(auto)]
+
 ghost use Rattle.std.specs.Prelude.{◌≡◌, ◌+◌, ◌*◌, ◌<◌, ◌≤◌, length};
 ghost use Rattle.dual.specs.Rules.{dual_algebra, dual_layout, dual_records, outcome};
 ghost use Rattle.matrices.specs.Matrix.{Square, RowPlace, cell};

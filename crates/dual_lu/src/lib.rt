@@ -1,5 +1,8 @@
 // LU, solve, determinant and inverse of matrices of `Dual` in lent floats: linalg.rs. Matrices lie row by row, the record at row r and column c at
 // (r * n + c) * 2, real part first. n is 0 to 32. A call that is refused by its number writes nothing, but for 6 (see `lu`).
+
+#![tactic(auto)]
+
 ghost use Rattle.std.specs.Prelude.{◌≡◌, length};
 ghost use Rattle.dual.specs.Rules.{dual_algebra, dual_layout, dual_records, outcome};
 ghost use Rattle.matrices.specs.Matrix.{Square};

@@ -1,4 +1,7 @@
 // The sum and the product of a lent run of `Dual` records: document 01's two thin functions over `&[Dual]`, beside those over flat floats.
+
+#![tactic(auto)]
+
 ghost use Rattle.std.specs.Prelude.{◌≡◌};
 ghost use Rattle.algebra.specs.Algebra.{zero_of, one_of};
 ghost use Rattle.dual.specs.Rules.{dual_add, dual_mul, dual_algebra};

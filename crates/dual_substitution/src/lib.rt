@@ -1,6 +1,9 @@
 // Solve, and inverse column by column. The starts of a vector are written first; then each element is made from what stands in its place.
 // The vector's element i is record i * stride + base of x: all of x (1, 0), or a column of a matrix (n, j).
 // Inner: for `dual_lu`, which has the entries. Its functions have a `requires`, which that crate shows.
+
+#![tactic(auto)]
+
 ghost use Rattle.std.specs.Prelude.{◌≡◌, ◌+◌, ◌*◌, ◌<◌, ◌≤◌, length};
 ghost use Rattle.dual.specs.Rules.{dual_algebra, dual_records};
 ghost use Rattle.matrices.specs.Matrix.{Square, RowPlace};

@@ -1,5 +1,8 @@
 // Reads standard input and writes what `dualrun_text::run` makes of it. 65,536 bytes are enough for both (crates/dualrun_text/proofs/Whole.antt): a longer text
 // gives what its first 65,536 bytes give. A text that its first line decides is read no further (crates/dualrun_text/proofs/LineDecides.antt).
+
+#![tactic(auto)]
+
 ghost use Rattle.std.specs.Prelude.{◌≤◌, length};
 ghost use Rattle.io.specs.Counts.{IsPrefixLen};
 ghost use Rattle.dualrun_text.specs.Request.{longest_line};

@@ -1,4 +1,7 @@
 // The runner as a function of texts: what `dualrun` reads in, what it writes out (document 01, the section on the runner).
+
+#![tactic(auto)]
+
 mod eig;
 mod lu;
 mod read;

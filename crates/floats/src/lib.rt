@@ -1,4 +1,7 @@
 // Lent floats: copied and cleared here, by their words in words.rt.
+
+#![tactic(auto)]
+
 pub mod words;
 
 ghost use Rattle.std.specs.Prelude.{◌≡◌, length, replicate};

@@ -1,4 +1,7 @@
 // Calls over `HyperDual`: four words a record, re, eps1, eps2 and eps1eps2.
+
+#![tactic(auto)]
+
 ghost use Rattle.std.specs.Prelude.{◌≡◌, ◌++◌, ◌+◌, length};
 ghost use Rattle.algebra.specs.Outcome.{map_outcome};
 ghost use Rattle.hyperdual.specs.Rules.{hyper_dual_layout, outcome};

@@ -1,5 +1,8 @@
 // LU column by column, and the determinant.
 // Inner: for `hyperdual_lu`, which has the entries. Its functions have a `requires`, which that crate shows.
+
+#![tactic(auto)]
+
 ghost use Rattle.std.specs.Prelude.{◌≡◌, ◌+◌, ◌*◌, ◌<◌, ◌≤◌, length};
 ghost use Rattle.hyperdual.specs.Rules.{hyper_dual_algebra, hyper_dual_layout, hyper_dual_records, outcome};
 ghost use Rattle.matrices.specs.Matrix.{Square, RowPlace, cell};

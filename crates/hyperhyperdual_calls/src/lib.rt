@@ -1,4 +1,7 @@
 // Calls over `HyperHyperDual`: eight words a record, re, eps1, eps2, eps3, eps1eps2, eps1eps3, eps2eps3 and eps1eps2eps3.
+
+#![tactic(auto)]
+
 ghost use Rattle.std.specs.Prelude.{◌≡◌, ◌++◌, ◌+◌, length};
 ghost use Rattle.algebra.specs.Outcome.{map_outcome};
 ghost use Rattle.hyperhyperdual.specs.Rules.{hyper_hyper_dual_layout, outcome};

@@ -1,4 +1,7 @@
 // Eigenvalues and eigenvectors of a symmetric matrix of `Dual` records: `jacobi_eigenvalue` of linalg.rs.
+
+#![tactic(auto)]
+
 mod prepare;
 mod sort;
 mod sweeps;

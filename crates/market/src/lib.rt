@@ -1,5 +1,8 @@
 // Matrix Market texts (document 02, wish 2), `array integer`, `general` or `symmetric`: the format as definitions, what its reader and its writer answer, and
 // the laws of both together. The code stands in `market_reader` and `market_writer`.
+
+#![tactic(auto)]
+
 ghost use Rattle.std.specs.Prelude.{◌≡◌};
 ghost use Rattle.algebra.specs.Outcome.{number_of};
 ghost use Rattle.market.specs.Answers.{market_outcome};

@@ -1,4 +1,7 @@
 // The reader of Matrix Market texts: `array integer`, `general` or `symmetric`, into lent floats.
+
+#![tactic(auto)]
+
 mod entries;
 mod head;
 mod places;

@@ -1,4 +1,7 @@
 // The writer of Matrix Market texts: `array integer general`, without comments or leading zeros, into lent bytes.
+
+#![tactic(auto)]
+
 mod lines;
 mod numbers;
 

@@ -1,5 +1,8 @@
 // What LU, solve, determinant and inverse share whatever the record: code that knows only a record's width in floats and the real parts.
 // Inner: for the crates that hold the entries. Its functions have a `requires`, which those crates show.
+
+#![tactic(auto)]
+
 pub mod order;
 pub mod refusal;
 pub mod rows;

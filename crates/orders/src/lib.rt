@@ -1,5 +1,8 @@
 // Whether a lent order is a permutation of 0, 1, .., n - 1, and its parity: one walk over it, which marks in a word what has come.
 // Inner: for the crates that test an order. Its functions have a `requires`, which those crates show.
+
+#![tactic(auto)]
+
 ghost use Rattle.std.specs.Prelude.{◌≡◌, ◌<◌, ◌≤◌, length};
 ghost use Rattle.refusals.specs.Largest as largest;
 ghost use Rattle.orders.specs.Order.{is_order, differ};

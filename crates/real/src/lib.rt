@@ -1,4 +1,7 @@
 // What the Rust takes from f64 itself: the square root, the magnitude, the sign bit, and floats by their words.
+
+#![tactic(auto)]
+
 pub mod root;
 
 ghost use Rattle.std.specs.Prelude.{◌≡◌};

@@ -1,6 +1,8 @@
 // The documents' numbers for refusals, and the limits that they are given at. specs/ has the same by name for contracts and definitions: a proof that
 // meets both holds them to each other.
 
+#![tactic(auto)]
+
 // n above `LARGEST_N`.
 pub const TOO_LARGE: u32 = 1;
 

@@ -2,6 +2,9 @@
 // a file is proved safe and ending and no more, since no contract can speak of what is read; every other has a promise of its answer.
 //
 // A file of answers holds hex words, each ended by a space or a newline; a line that starts with # is passed over.
+
+#![tactic(auto)]
+
 pub mod bytes;
 pub mod same;
 pub mod tally;

@@ -1,4 +1,7 @@
 // Replays recorded texts of dualrun: the runner's output is to be the file's, byte for byte.
+
+#![tactic(auto)]
+
 use replay::tally::{Compared, Tally};
 use replay::{Place, bytes, same, tally};
 

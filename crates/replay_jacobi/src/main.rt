@@ -1,5 +1,8 @@
 // Replays the recorded answers of Jacobi over `Dual`: jacobi.txt. A case is run as the file has it and again with (NaN, 42) below the diagonal; both
 // runs are to give the file's answer.
+
+#![tactic(auto)]
+
 ghost use Rattle.std.specs.Prelude.{◌≡◌, ◌&&◌};
 ghost use Rattle.jacobi.specs.Answer.{outcome};
 ghost use Rattle.replay_jacobi.specs.Runs.{spoiled_at, spoiled_of, same_run};

@@ -1,5 +1,8 @@
 // Replays the recorded answers of LU, solve, determinant and inverse, over `Dual` (lu.txt, solve.txt, determinant.txt, inverse.txt) and over `HyperDual`
 // (lu-hyperdual.txt and so on).
+
+#![tactic(auto)]
+
 mod entries;
 mod over;
 mod rooms;

@@ -1,4 +1,7 @@
 // Replays recorded Matrix Market cases (oracle/README.md): texts through the reader (read.txt), matrices through the writer (write.txt).
+
+#![tactic(auto)]
+
 mod compare;
 mod over;
 mod reading;

@@ -1,5 +1,8 @@
 // The cases of the matrices' files (oracle/README.md), once they are read: words as the floats and orders that an entry is handed, and what an entry leaves compared
 // with the words and numbers that the file has.
+
+#![tactic(auto)]
+
 ghost use Rattle.std.specs.Prelude.{◌≡◌, List, ◌*◌, ◌≤◌, length, get_or};
 ghost use Rattle.std.specs.Float.{binary64};
 ghost use Rattle.std.specs.Float.Ieee.{of_bits};

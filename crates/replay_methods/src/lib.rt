@@ -1,5 +1,8 @@
 // The records' own methods, where a call by number reaches what they do by another name: constants, scale, recip, inv, sqrt and the predicates. Each is asked for
 // what the file has.
+
+#![tactic(auto)]
+
 pub mod of_dual;
 pub mod of_dual2;
 pub mod of_dual3;

@@ -1,5 +1,8 @@
 // What comes of a call of the refusals' replay, as a case of the file has it (oracle/README.md): what is lent is filled by rule (filling.rt), as far as the program
 // has room (lent.rt), and what comes back is compared.
+
+#![tactic(auto)]
+
 pub mod filling;
 pub mod lent;
 

@@ -1,4 +1,7 @@
 // Replays the recorded answers of the five record types, records-KIND.txt and runs-KIND.txt, through the calls that the exports make and through the records' own methods.
+
+#![tactic(auto)]
+
 mod answers;
 mod kinds;
 mod print;

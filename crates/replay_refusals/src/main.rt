@@ -1,5 +1,8 @@
 // Replays refusals.txt (oracle/README.md): calls that are refused, and their neighbours that are not, through the library's exports. Each must give document 01's
 // number, and leave what it is lent as the number says: as it was, or with the Rust's answer.
+
+#![tactic(auto)]
+
 mod entries;
 
 use replay::tally::{Compared, Tally};

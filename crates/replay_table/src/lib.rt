@@ -1,4 +1,7 @@
 // The cases of records-KIND.txt and runs-KIND.txt (oracle/README.md): what a case of each function holds, its records through the pool, and its answer compared.
+
+#![tactic(auto)]
+
 pub mod read;
 
 ghost use Rattle.std.specs.Prelude.{◌≡◌, ◌≤◌, ◌<◌, min, length};

@@ -1,4 +1,7 @@
 // Prints how the square root finds its bits, one a row, by the function that the library uses: `2 8` on standard input gives the table of docs/ROOT.md.
+
+#![tactic(auto)]
+
 mod read;
 mod start;
 mod table;

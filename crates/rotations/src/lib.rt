@@ -1,5 +1,8 @@
 // One entry above the diagonal in Jacobi's run over `Dual`: what is done with it, by which angle, and the rotation.
 // Inner: for the crate that holds the entry. Its functions have a `requires`, which that crate shows.
+
+#![tactic(auto)]
+
 pub mod cells;
 mod choose;
 pub mod pair;

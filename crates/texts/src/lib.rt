@@ -1,5 +1,8 @@
 // Texts as lent bytes: the byte, the digits and the number at a place, and a page that is filled as far as it fits. An inner crate: what reads or writes a
 // format stands above it. Past its end a text has the byte 0, which is no digit and ends no line.
+
+#![tactic(auto)]
+
 pub mod read;
 pub mod whole;
 pub mod write;
