@@ -6,7 +6,6 @@ use native.Mathlib.Nat.{add-mul, mul_assoc, mul-le-mul_right, lt_of_not-le}
 use native.Mathlib.Decide.{dec_le}
 use native.Mathlib.Omega.{arith}
 use mathlib.Core.Bool.{Bool, true, false, cond}
-use lib.Dec.{leb}
 use lib.Pow.{pow_pos}
 use borrow.Author.Tests.{leb-true, leb-false}
 use Rattle.real.specs.declared.root.Found.{Found}

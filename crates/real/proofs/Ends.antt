@@ -1,12 +1,12 @@
 -- `sqrt`: the floats that are answered without a root, and that the others have a pattern from 1 up and below the infinity's. Assumes nothing.
 use mathlib.Core.Path.{◌≡◌, refl, sym, ap, ◌∙◌, subst}
 use mathlib.Core.Logic.{inl, inr}
-use Prim.Native.Nat.{ℕ, zero, suc, ◌-◌, ◌*◌, ◌^◌, ◌≤◌, ◌<◌}
+use Prim.Native.Nat.{ℕ, zero, suc, ◌*◌, ◌^◌, ◌≤◌, ◌<◌}
 use native.Mathlib.Nat.{not-le_of_lt, lt_irrefl, eq-zero-or-pos, mul-pos, mul-one, one-mul, zero-mul, zero-lt-suc, pow-succ'}
 use native.Mathlib.Omega.{arith}
 use mathlib.Core.Bool.{Bool, true, false, not, beq, ◌&&◌, ◌||◌, true≢false}
 use lib.IntN.{ℤ, pos, negsuc}
-use lib.Dec.{T, ltb, eqb, eqb→eq, lt→ltb}
+use lib.Dec.{T, eqb, eqb→eq, lt→ltb}
 use lib.Pow.{pow_pos}
 use lib.Ieee.{Float, nan, inf, fin, binary64, up, down, fits, of_bits, to_bits, is_nan, lt, eq, div}
 use lib.Ieee.Fits.{up_pos, and_l, eq→eqb}

@@ -8,7 +8,7 @@ use lib.IntN.{ℤ, pos}
 use lib.Dec.{T, lit≤, leb, ltb, eqb, leb→le, eqb→eq, ltb→lt, lt→ltb, not_T}
 use lib.Pow.{pow-add, pow_pos, pow_mono, shl_lt}
 use lib.Count.{count_trailing_zeros, count_leading_zeros, leading_top}
-use lib.Ieee.{Float, nan, inf, fin, Format, binary64, prec, emax, low, up, down, minus, size, odd, units, hid, top, fits, of_fields, of_bits, to_bits, nan_bits, lt, eq}
+use lib.Ieee.{Float, nan, inf, fin, Format, binary64, prec, emax, low, up, down, minus, size, odd, units, hid, top, fits, of_fields, of_bits, to_bits, nan_bits}
 use lib.Ieee.Digits.{Equals, odd_val, size-le}
 use lib.Ieee.Fits.{down_pos, odd-fits, kept-lt, and_r, two, two-le_pos}
 use lib.Ieee.Bits.{is_true, is_false, cond_no, of_bits-to_bits, nan_bits_above}

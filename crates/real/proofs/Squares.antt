@@ -1,6 +1,6 @@
 -- Squares of whole numbers, and the whole root of the definitions: w * w ≤ n < (w + 1) * (w + 1). Assumes nothing.
 use mathlib.Core.Path.{◌≡◌}
-use Prim.Native.Nat.{ℕ, zero, suc, ◌+◌, ◌-◌, ◌*◌, ◌/◌, ◌^◌, ◌≤◌, ◌<◌}
+use Prim.Native.Nat.{ℕ, zero, suc, ◌+◌, ◌*◌, ◌/◌, ◌^◌, ◌≤◌, ◌<◌}
 use native.Mathlib.Nat.{add-mul, mul-add, mul-mul-mul_comm, mul-le-mul, lt_of_not-le, not-le_of_lt, lt_of_lt_of_le, pow-succ'}
 use native.Mathlib.Omega.{arith}
 use mathlib.Core.Bool.{Bool, true, false, not, cond}
