@@ -11,14 +11,7 @@ use Rattle.orders.specs.Order.{is_order}
 use Rattle.orders.specs.Walk.{marks_with, is_full}
 use Rattle.orders.specs.declared.Marks.{Marks}
 use Rattle.orders.proofs.Walk.{Marking, marking, mark_turn, mark_stop, mark_full}
-use Rattle.orders.proofs.is_order.Statement.{statement}
-use Rattle.orders.proofs.is_order.Tie as tie
-
-abbrev invariant-loop : tie.invariant-loop
-invariant-loop n o m₀ i₀ m i = Marking n o m i
-
-abbrev decreases-loop : tie.decreases-loop
-decreases-loop n o m₀ i₀ m i = n - i
+use Rattle.orders.proofs.is_order.Goals as goal
 
 -- an entry that is not below n: no order
 stop : (n : ℕ) (o : List ℕ) (m : Marks) (i : ℕ) → Marking n o m i → i < n → length o ≡ n → n ≤ get_or o i 0 → false ≡ is_order n o
@@ -36,15 +29,17 @@ turn {n} {o} {m} {i} k m' h small long below em = subst (λ (t : Marks). Marking
 full : (n : ℕ) (o : List ℕ) (m : Marks) (i : ℕ) (t : Bool) → Marking n o m i → n ≤ i → length o ≡ n → t ≡ is_full n m.word → t ≡ is_order n o
 full n o m i t k h long e = e ∙ mark_full n o m i k (omega arith) long
 
-pub is_order_spec : {M : Type 1} → statement M
-is_order_spec =
-    tie.close
-    (tie.spec invariant-loop decreases-loop
-    (λ c. marking _ _)
-    (λ c. search rules) (λ c. search rules)
-    (λ c. search (rules, stop))
-    (λ c κs. search (rules, bit))
-    (λ c. search rules) (λ c. search rules)
-    (λ c. turn c.before.before.before.before.loop.invariant _ (search rules) (search rules) (search rules) (search rules) (search rules))
-    (λ c κs. search rules)
-    (λ c. search (rules, full)))
+pub loop-i-init : goal.loop-i-init
+loop-i-init c = marking _ _
+
+pub returns-then-x-n : goal.returns-then-x-n
+returns-then-x-n c = search (rules, stop)
+
+pub mark-m-requires : goal.mark-m-requires
+mark-m-requires c = search (rules, bit)
+
+pub loop-i-preserved : goal.loop-i-preserved
+loop-i-preserved c = turn c.loop-i.invariant _ (search rules) (search rules) (search rules) (search rules) (search rules)
+
+pub returns : goal.returns
+returns c = search (rules, full)

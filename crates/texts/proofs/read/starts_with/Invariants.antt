@@ -1,0 +1,15 @@
+-- The loop keeps: the bytes passed are those of the word (Passed).
+use borrow.Author.Rules.{rules}
+use Prim.Native.Nat.{◌-◌}
+use mathlib.Core.Path.{sym}
+use lib.Dec.{eqb}
+use lib.ListN.{length}
+use Rattle.texts.specs.Digits.{byte_at, starts_with}
+use Rattle.texts.proofs.Every.{Passed, passed_none, passed_more, passed_all, every_false, read_same, read_other}
+use Rattle.texts.proofs.read.starts_with.Given as goal
+
+abbrev pub invariant-loop-i : goal.invariant-loop-i
+invariant-loop-i l = Passed (λ j. eqb (byte_at l.text j) (byte_at l.word j)) (length l.word) l.i
+
+abbrev pub decreases-loop-i : goal.decreases-loop-i
+decreases-loop-i l = length l.word - l.i
