@@ -3,7 +3,7 @@ use mathlib.Core.Path.{refl, sym, ◌∙◌}
 use Rattle.real.proofs.Only.{Only}
 use Rattle.derivatives.proofs.Series as series
 use Rattle.derivatives.proofs.choose
-use Rattle.derivatives.specs.contracts.is_small
+use Rattle.derivatives.proofs.is_small
 
 pub recip_only : Only 0 series.recip.Kinds.ps series.recip.Kinds.r series.recip.Reads.Pre series.recip.Reads.Post
 recip_only κs a x y v w h p q = (p ∙ sym q, refl)

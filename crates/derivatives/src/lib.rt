@@ -17,7 +17,7 @@ const LN_10: f64 = 2.302585092994046;
 const EPSILON: f64 = 2.220446049250313e-16;
 
 // The value of an elementary function and its first three derivatives at a real part.
-#[derive(Drop)]
+#[derive(Clone, Copy)]
 pub struct Series {
     pub f0: f64,
     pub f1: f64,
@@ -27,7 +27,7 @@ pub struct Series {
 
 // A request: one of the named functions, each with the outside floats that it needs, taken at the real part re. `pow3` is re^(exp-3) for powi,
 // and re^(((n-1)-1)-1) for powf.
-#[derive(Drop)]
+#[derive(Clone, Copy)]
 pub enum Function {
     Recip,
     Powi { exp: i32, pow3: f64 },
@@ -62,7 +62,7 @@ pub enum Function {
 }
 
 // What a record x does for a request.
-#[derive(Drop)]
+#[derive(Clone, Copy)]
 pub enum Plan {
     // the number that it is refused by
     Refused(u32),

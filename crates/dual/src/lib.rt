@@ -12,7 +12,7 @@ ghost use Rattle.dual.specs.Rules.{dual, dual_from_re, dual_derivative, dual_cha
 
 pub use records::{product, read, sum, write};
 
-#[derive(Drop)]
+#[derive(Clone, Copy)]
 pub struct Dual {
     // Real part of the dual number
     pub re: f64,
@@ -21,14 +21,14 @@ pub struct Dual {
 }
 
 // A record, or the number that a request is refused by.
-#[derive(Drop)]
+#[derive(Clone, Copy)]
 pub enum DualAnswer {
     Value(Dual),
     Refused(u32),
 }
 
 // What `sin_cos` gives.
-#[derive(Drop)]
+#[derive(Clone, Copy)]
 pub struct DualSinCos {
     pub sin: Dual,
     pub cos: Dual,

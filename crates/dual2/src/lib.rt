@@ -12,7 +12,7 @@ ghost use Rattle.dual2.specs.Rules.{dual2, dual2_derivative, dual2_from_re, dual
 
 pub use records::{product, read, sum, write};
 
-#[derive(Drop)]
+#[derive(Clone, Copy)]
 pub struct Dual2 {
     // Real part of the second order dual number
     pub re: f64,
@@ -23,14 +23,14 @@ pub struct Dual2 {
 }
 
 // A record, or the number that a request is refused by.
-#[derive(Drop)]
+#[derive(Clone, Copy)]
 pub enum Dual2Answer {
     Value(Dual2),
     Refused(u32),
 }
 
 // What `sin_cos` gives.
-#[derive(Drop)]
+#[derive(Clone, Copy)]
 pub struct Dual2SinCos {
     pub sin: Dual2,
     pub cos: Dual2,

@@ -13,7 +13,7 @@ ghost use Rattle.dual3.specs.Rules.{dual3, dual3_from_re, dual3_derivative, dual
 use derivatives::Series;
 pub use records::{product, read, sum, write};
 
-#[derive(Drop)]
+#[derive(Clone, Copy)]
 pub struct Dual3 {
     // Real part of the third order dual number
     pub re: f64,
@@ -26,14 +26,14 @@ pub struct Dual3 {
 }
 
 // A record, or the number that a request is refused by.
-#[derive(Drop)]
+#[derive(Clone, Copy)]
 pub enum Dual3Answer {
     Value(Dual3),
     Refused(u32),
 }
 
 // What `sin_cos` gives.
-#[derive(Drop)]
+#[derive(Clone, Copy)]
 pub struct Dual3SinCos {
     pub sin: Dual3,
     pub cos: Dual3,

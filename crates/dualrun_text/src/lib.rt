@@ -30,7 +30,7 @@ const MOST_FLOATS: usize = refusals::LARGEST_N * MOST_VALUES;
 const MOST_VALUES: usize = refusals::LARGEST_N * 2;
 
 // What the first line asks, and where the matrix starts.
-#[derive(Drop)]
+#[derive(Clone, Copy)]
 enum Request {
     Lu {
         n: usize,
@@ -58,7 +58,7 @@ impl Request {
 }
 
 // A word of the matrix.
-#[derive(Drop)]
+#[derive(Clone, Copy)]
 enum Word {
     Is(u64),
     Not,

@@ -12,7 +12,7 @@ ghost use Rattle.hyperdual.specs.Rules.{hyper_dual, hyper_dual_derivative1, hype
 
 pub use records::{product, read, sum, write};
 
-#[derive(Drop)]
+#[derive(Clone, Copy)]
 pub struct HyperDual {
     // Real part of the hyper-dual number
     pub re: f64,
@@ -25,14 +25,14 @@ pub struct HyperDual {
 }
 
 // A record, or the number that a request is refused by.
-#[derive(Drop)]
+#[derive(Clone, Copy)]
 pub enum HyperDualAnswer {
     Value(HyperDual),
     Refused(u32),
 }
 
 // What `sin_cos` gives.
-#[derive(Drop)]
+#[derive(Clone, Copy)]
 pub struct HyperDualSinCos {
     pub sin: HyperDual,
     pub cos: HyperDual,

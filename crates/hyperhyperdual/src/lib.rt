@@ -13,7 +13,7 @@ ghost use Rattle.hyperhyperdual.specs.Rules.{hyper_hyper_dual, hyper_hyper_dual_
 use derivatives::Series;
 pub use records::{product, read, sum, write};
 
-#[derive(Drop)]
+#[derive(Clone, Copy)]
 pub struct HyperHyperDual {
     // Real part of the hyper-hyper-dual number
     pub re: f64,
@@ -34,14 +34,14 @@ pub struct HyperHyperDual {
 }
 
 // A record, or the number that a request is refused by.
-#[derive(Drop)]
+#[derive(Clone, Copy)]
 pub enum HyperHyperDualAnswer {
     Value(HyperHyperDual),
     Refused(u32),
 }
 
 // What `sin_cos` gives.
-#[derive(Drop)]
+#[derive(Clone, Copy)]
 pub struct HyperHyperDualSinCos {
     pub sin: HyperHyperDual,
     pub cos: HyperHyperDual,

@@ -17,7 +17,7 @@ ghost use Rattle.jacobi.specs.Scratch.{small_n};
 ghost use Rattle.jacobi.specs.Answer.{outcome, eigen_of};
 
 // The sweeps that did not stop at the threshold, or the number that the call is refused by.
-#[derive(Drop)]
+#[derive(Clone, Copy)]
 pub enum JacobiAnswer {
     Done { sweeps: usize },
     Refused { number: u32 },
@@ -48,7 +48,7 @@ const SMALL_ROW: usize = SMALL_N * 2;
 const SMALL_MATRIX: usize = SMALL_N * SMALL_ROW;
 
 // How the sweeps ended: their count, the rotations, and whether the threshold was zero at last.
-#[derive(Drop)]
+#[derive(Clone, Copy)]
 pub(crate) struct Ended {
     pub sweeps: usize,
     pub rotations: usize,
@@ -56,7 +56,7 @@ pub(crate) struct Ended {
 }
 
 // Where a sweep leaves the run: stopped at a zero threshold, or swept, with the rotations so far.
-#[derive(Drop)]
+#[derive(Clone, Copy)]
 pub(crate) enum AfterSweep {
     Stopped,
     Swept { rotations: usize },

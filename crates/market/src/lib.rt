@@ -11,7 +11,7 @@ ghost use Rattle.market.specs.Answers.{market_outcome};
 pub const PAGE: usize = 20480;
 
 // Done with the size of the matrix (the writer: the length of the text), or the number that the call is refused by.
-#[derive(Drop)]
+#[derive(Clone, Copy)]
 pub enum MarketAnswer {
     Done { count: usize },
     Refused { number: u32 },

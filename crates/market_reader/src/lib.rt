@@ -15,7 +15,7 @@ ghost use Rattle.market.specs.Read.{read_left};
 use market::MarketAnswer;
 
 // What stands before the entries: the size, whether the text is symmetric, and where the entries start.
-#[derive(Drop)]
+#[derive(Clone, Copy)]
 pub(crate) enum Opening {
     Ready {
         n: usize,
@@ -28,7 +28,7 @@ pub(crate) enum Opening {
 }
 
 // An entry and the place after its line, or the number of its fault.
-#[derive(Drop)]
+#[derive(Clone, Copy)]
 pub(crate) enum Entry {
     Is { x: f64, next: usize },
     Not { number: u32 },

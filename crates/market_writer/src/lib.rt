@@ -13,7 +13,7 @@ ghost use Rattle.market.specs.Write.{write_left};
 use market::MarketAnswer;
 
 // The magnitude of a whole number.
-#[derive(Drop)]
+#[derive(Clone, Copy)]
 pub(crate) enum Whole {
     Is(u64),
     Not,

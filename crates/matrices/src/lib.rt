@@ -12,21 +12,21 @@ ghost use Rattle.algebra.specs.Outcome.{number_of};
 ghost use Rattle.matrices.specs.Answers.{lu_outcome, lu_column, solve_outcome};
 
 // The best row so far for a column, with the magnitude of its real part.
-#[derive(Drop)]
+#[derive(Clone, Copy)]
 pub struct Pivot {
     pub magnitude: f64,
     pub row: usize,
 }
 
 // Where a column of LU leaves the run.
-#[derive(Drop)]
+#[derive(Clone, Copy)]
 pub enum AfterColumn {
     Singular { column: usize },
     Going { swaps: usize },
 }
 
 // What LU answers: the number of swaps, or a refusal by its number with the column beside it (0 unless the number is 6).
-#[derive(Drop)]
+#[derive(Clone, Copy)]
 pub enum LuAnswer {
     Done { swaps: usize },
     Refused { number: u32, column: usize },
@@ -55,7 +55,7 @@ impl LuAnswer {
 }
 
 // What solve and inverse answer.
-#[derive(Drop)]
+#[derive(Clone, Copy)]
 pub enum SolveAnswer {
     Done,
     Refused { number: u32 },

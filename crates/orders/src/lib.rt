@@ -10,7 +10,7 @@ ghost use Rattle.orders.specs.Walk.{marks_with, is_full};
 
 // What has come of an order of numbers below 32, on a walk over it. Bit x of `word`: whether an odd number of what has come is above x; bit 32 + x: whether x
 // has come an odd number of times. Bit 0 of `inversions`: whether they are odd in number (an inversion: an entry with a lesser one after it); its other bits mean nothing.
-#[derive(Drop)]
+#[derive(Clone, Copy)]
 pub struct Marks {
     pub word: u64,
     pub inversions: u64,

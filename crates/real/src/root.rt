@@ -13,7 +13,7 @@ const HIDDEN: u64 = 0x10_0000_0000_0000;
 pub(crate) const INFINITY: u64 = 0x7ff0_0000_0000_0000;
 
 // How far a root is found: twice the root so far; what its square leaves, counted in the last bit found; the weight of the bit to find next, 0 after the last.
-#[derive(Drop)]
+#[derive(Clone, Copy)]
 pub struct Found {
     pub twice: u64,
     pub rest: u64,
@@ -42,7 +42,7 @@ pub fn next_bit(found: Found) -> Found
 }
 
 // A whole root, and what its square leaves.
-#[derive(Drop)]
+#[derive(Clone, Copy)]
 pub(crate) struct Whole {
     pub root: u64,
     pub rest: u64,
@@ -77,7 +77,7 @@ pub(crate) fn rounded_root(a: u64) -> u64
 }
 
 // A number a * 2^(e - 1126) whose a has 53 digits.
-#[derive(Drop)]
+#[derive(Clone, Copy)]
 pub(crate) struct Scaled {
     pub a: u64,
     pub e: u64,

@@ -5,7 +5,7 @@ ghost use Rattle.io.specs.Counts.{IsPrefixLen};
 use super::{Byte, Place};
 
 // How many bytes were read, whether they are as many as were asked for, and where the reader stands.
-#[derive(Drop)]
+#[derive(Clone, Copy)]
 pub struct Text {
     pub count: usize,
     pub whole: bool,

@@ -16,14 +16,14 @@ ghost use Rattle.replay.specs.Reading.{seen_after};
 pub const BUFFER: usize = 4096;
 
 // The bytes at..end of the buffer are still to be read.
-#[derive(Drop)]
+#[derive(Clone, Copy)]
 pub struct Place {
     pub at: usize,
     pub end: usize,
 }
 
 // A word, with its number of digits: none where the file ends before the word does, or has a byte that no file of answers has.
-#[derive(Drop)]
+#[derive(Clone, Copy)]
 pub struct Word {
     pub word: u64,
     pub digits: u32,
@@ -31,20 +31,20 @@ pub struct Word {
 }
 
 // Where the reader stands, and whether the file had all that was asked for.
-#[derive(Drop)]
+#[derive(Clone, Copy)]
 pub struct Read {
     pub place: Place,
     pub whole: bool,
 }
 
-#[derive(Drop)]
+#[derive(Clone, Copy)]
 enum Byte {
     Is(u8, Place),
     End,
 }
 
 // What a word's reader has seen so far.
-#[derive(Drop)]
+#[derive(Clone, Copy)]
 struct Seen {
     word: u64,
     digits: u32,

@@ -6,14 +6,14 @@ use super::{Byte, Place, Read};
 use libc::STDOUT_FILENO;
 
 // How many cases were compared, and how many differ.
-#[derive(Drop)]
+#[derive(Clone, Copy)]
 pub struct Tally {
     pub compared: u64,
     pub different: u64,
 }
 
 // A case: where the reader stands after it, whether it was read whole, and whether what the port left is what was recorded.
-#[derive(Drop)]
+#[derive(Clone, Copy)]
 pub struct Compared {
     pub place: Place,
     pub whole: bool,
@@ -21,7 +21,7 @@ pub struct Compared {
 }
 
 // The cases of a file so far: where the reader stands, the count, and how many are left.
-#[derive(Drop)]
+#[derive(Clone, Copy)]
 pub struct Run {
     pub place: Place,
     pub tally: Tally,

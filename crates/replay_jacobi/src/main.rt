@@ -14,7 +14,7 @@ use replay::{Place, tally};
 const NAN: u64 = 0x7ff8_0000_0000_0000;
 
 // What a case begins with. Its numbers of rotations and whether the run settled are passed over: the port does not report them.
-#[derive(Drop)]
+#[derive(Clone, Copy)]
 struct Head {
     size: u64,
     limit: usize,

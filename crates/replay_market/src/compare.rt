@@ -12,7 +12,7 @@ pub(crate) const WORD_BEFORE: u64 = 0x3ff8_0000_0000_0000;
 pub(crate) const BYTE_BEFORE: u8 = 0xff;
 
 // A recorded answer: its number, and n or the length of the text beside it, 0 where the call is refused.
-#[derive(Drop)]
+#[derive(Clone, Copy)]
 pub(crate) struct Recorded {
     pub number: u64,
     pub count: u64,

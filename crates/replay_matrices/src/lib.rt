@@ -17,7 +17,7 @@ ghost use Rattle.replay_matrices.specs.Cases.{same_floats, zero_numbers, zero_fl
 use matrices::{LuAnswer, SolveAnswer};
 
 // Document 01's number, and the swap count or the column that stands beside it.
-#[derive(Drop)]
+#[derive(Clone, Copy)]
 pub struct Numbers {
     pub number: u64,
     pub swaps_or_column: u64,

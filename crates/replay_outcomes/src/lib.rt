@@ -10,7 +10,7 @@ ghost use Rattle.std.specs.Prelude.{◌≡◌};
 ghost use Rattle.replay_outcomes.specs.Outcome.{same_outcome};
 
 // What comes of a call: its number, what stands beside it, and one word of all that was lent to be written.
-#[derive(Drop)]
+#[derive(Clone, Copy)]
 pub struct Outcome {
     pub number: u64,
     pub beside: u64,

@@ -9,7 +9,7 @@ use dual3::Dual3;
 use hyperdual::HyperDual;
 use hyperhyperdual::HyperHyperDual;
 
-#[derive(Drop)]
+#[derive(Clone, Copy)]
 pub(crate) enum Kind {
     Dual,
     Dual2,

@@ -16,7 +16,7 @@ use replay::tally::{Compared, Tally};
 use replay::{Place, tally};
 
 // A case, with its function.
-#[derive(Drop)]
+#[derive(Clone, Copy)]
 struct Told {
     function: u64,
     compared: Compared,

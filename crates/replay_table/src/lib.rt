@@ -20,7 +20,7 @@ pub const WORDS: usize = 96;
 pub const ANSWER: usize = 16;
 
 // How many fields of each sort a case has, and how many records its answer has: none is a whole number.
-#[derive(Drop)]
+#[derive(Clone, Copy)]
 pub struct Shape {
     pub records: u64,
     pub exponents: u64,
@@ -29,7 +29,7 @@ pub struct Shape {
 }
 
 // A case, but for its words: how many its records, its floats and its answer have.
-#[derive(Drop)]
+#[derive(Clone, Copy)]
 pub struct Case {
     pub function: u64,
     pub exponent: u64,

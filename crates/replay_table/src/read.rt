@@ -7,7 +7,7 @@ use crate::{Case, RUN, Shape, WORDS};
 use replay::Place;
 
 // One word of so many digits, where there is to be one.
-#[derive(Drop)]
+#[derive(Clone, Copy)]
 struct Field {
     word: u64,
     whole: bool,
@@ -38,7 +38,7 @@ fn read_field(
 }
 
 // The words of so many records of places, one record after the other, and how many words they are.
-#[derive(Drop)]
+#[derive(Clone, Copy)]
 struct Records {
     length: usize,
     whole: bool,
@@ -87,7 +87,7 @@ fn read_records(
 }
 
 // What comes before the records: the function, and how many records there are.
-#[derive(Drop)]
+#[derive(Clone, Copy)]
 struct Head {
     function: u64,
     records: u64,
@@ -118,7 +118,7 @@ fn read_head(file: i32, buffer: &mut [u8; replay::BUFFER], place: Place) -> Head
 }
 
 // What comes after the records and before the answer: powi's exponent, the floats, and the number of a refusal, which a run has not.
-#[derive(Drop)]
+#[derive(Clone, Copy)]
 struct Middle {
     exponent: u64,
     number: u64,

@@ -12,7 +12,7 @@ ghost use Rattle.texts.specs.Page.{page, written};
 ghost use Rattle.rootsteps.specs.Output.{output_of};
 
 // What a text asks: the steps to the root of a number, in so many bits.
-#[derive(Drop)]
+#[derive(Clone, Copy)]
 enum Request {
     Steps { number: u64, bits: u64 },
     Unreadable,

@@ -5,7 +5,7 @@ ghost use Rattle.rootsteps.specs.Start.{significand_of, exponent_of};
 
 // A number times a power of 2, so that it has so many digits, or one more: the significand. That times the weight of the leading bit is the number times 2 to
 // the exponent, which is even.
-#[derive(Drop)]
+#[derive(Clone, Copy)]
 pub(crate) struct Scaled {
     pub significand: u64,
     pub exponent: u64,

@@ -71,7 +71,7 @@ fn row(out: &mut [u8], at: usize, found: Found, next: Found) -> usize
 }
 
 // Where the rows end, and what is found after the last: the whole root, and what its square leaves.
-#[derive(Drop)]
+#[derive(Clone, Copy)]
 struct Ended {
     at: usize,
     root: u64,

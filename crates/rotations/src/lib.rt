@@ -11,7 +11,7 @@ mod turn;
 use dual::Dual;
 
 // What is done with an entry: it is left, set to zero, or rotated away.
-#[derive(Drop)]
+#[derive(Clone, Copy)]
 pub enum Choice {
     Keep,
     Clear,
@@ -19,7 +19,7 @@ pub enum Choice {
 }
 
 // What a rotation is made with: s and tau turn, h moves between the diagonal entries.
-#[derive(Drop)]
+#[derive(Clone, Copy)]
 pub struct Angle {
     pub s: Dual,
     pub tau: Dual,

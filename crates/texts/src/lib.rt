@@ -8,14 +8,14 @@ pub mod whole;
 pub mod write;
 
 // Digits read from a place on: what they spell, and how many there are.
-#[derive(Drop)]
+#[derive(Clone, Copy)]
 pub struct Scan {
     pub value: u64,
     pub digits: usize,
 }
 
 // A decimal number, and the place after it.
-#[derive(Drop)]
+#[derive(Clone, Copy)]
 pub enum Number {
     Is { value: usize, end: usize },
     Not,

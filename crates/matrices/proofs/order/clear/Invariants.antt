@@ -1,0 +1,13 @@
+-- The loop keeps: every entry passed holds 0.
+use mathlib.Core.Path.{◌≡◌, refl, sym, ◌∙◌}
+use Prim.Native.Nat.{ℕ, ◌-◌}
+use lib.ListN.{length, replicate, length-set, length-replicate, get_or-replicate}
+use native.Mathlib.Omega.{arith}
+use Rattle.floats.proofs.Fill.{Filled, filled_more, filled_all}
+use Rattle.matrices.proofs.order.clear.Given as goal
+
+abbrev pub invariant-loop-i : goal.invariant-loop-i
+invariant-loop-i l = (length l.order ≡ length l.initial.order) × Filled 0 (λ k. 0) l.order l.i
+
+abbrev pub decreases-loop-i : goal.decreases-loop-i
+decreases-loop-i l = length l.initial.order - l.i
