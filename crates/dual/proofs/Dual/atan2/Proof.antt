@@ -1,8 +1,0 @@
--- What the calls promise, put together, is the definition.
-use borrow.Author.Rules.{rules}
-use Rattle.dual.proofs.Dual.atan2.Statement.{statement}
-use Rattle.dual.proofs.Dual.atan2.Tie as tie
-
-pub atan2_spec : {M : Type 1} → statement M
-atan2_spec = tie.close (tie.spec
-    (λ c κs. search rules) (λ c κs. search rules) (λ c κs. search rules) (λ c. cc))

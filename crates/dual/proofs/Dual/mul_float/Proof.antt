@@ -1,9 +1,0 @@
--- The body is the rule's own operations in its order.
-use mathlib.Core.Path.{refl}
-use Rattle.dual.specs.Rules.{dual_mul_float}
-use Rattle.dual.proofs.Dual.mul_float.Statement.{statement}
-use Rattle.dual.proofs.Dual.mul_float.Tie as tie
-
-pub mul_float_spec : {M : Type 1} → statement M
-unfolding dual_mul_float
-mul_float_spec = tie.close (tie.spec (λ c. refl))

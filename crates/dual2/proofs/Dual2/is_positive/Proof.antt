@@ -1,8 +1,0 @@
--- What the calls promise, put together, is the definition.
-use borrow.Author.Rules.{rules}
-use Rattle.dual2.proofs.Dual2.is_positive.Statement.{statement}
-use Rattle.dual2.proofs.Dual2.is_positive.Tie as tie
-
-pub is_positive_spec : {M : Type 1} → statement M
-is_positive_spec = tie.close (tie.spec
-    (λ c κs. search rules) (λ c. cc))

@@ -1,9 +1,0 @@
--- The body is the rule's own operations in its order.
-use mathlib.Core.Path.{refl}
-use Rattle.dual2.specs.Rules.{dual2_mul_float}
-use Rattle.dual2.proofs.Dual2.mul_float.Statement.{statement}
-use Rattle.dual2.proofs.Dual2.mul_float.Tie as tie
-
-pub mul_float_spec : {M : Type 1} → statement M
-unfolding dual2_mul_float
-mul_float_spec = tie.close (tie.spec (λ c. refl))

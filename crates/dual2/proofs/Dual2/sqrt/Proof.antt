@@ -1,8 +1,0 @@
--- What the calls promise, put together, is the definition.
-use borrow.Author.Rules.{rules}
-use Rattle.dual2.proofs.Dual2.sqrt.Statement.{statement}
-use Rattle.dual2.proofs.Dual2.sqrt.Tie as tie
-
-pub sqrt_spec : {M : Type 1} → statement M
-sqrt_spec = tie.close (tie.spec
-    (λ c κs. search rules) (λ c κs. search rules) (λ c. cc))

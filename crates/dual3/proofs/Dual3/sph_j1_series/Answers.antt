@@ -1,0 +1,11 @@
+-- The test is that of the definition; what the calls of each branch promise, put together, is its side (Arms).
+use borrow.Author.Rules.{rules}
+use Rattle.derivatives.proofs.Arms.{series_small, series_elsewhere}
+use Rattle.dual3.specs.Rules.{dual3_algebra}
+use Rattle.dual3.proofs.Dual3.sph_j1_series.Goals as goal
+
+pub returns-then-is_small : goal.returns-then-is_small
+returns-then-is_small c = search (rules, series_small dual3_algebra)
+
+pub returns : goal.returns
+returns c = search (rules, series_elsewhere dual3_algebra)

@@ -1,0 +1,21 @@
+-- The loop keeps: what is left to multiply gives the whole product (Joins, over any record).
+use borrow.Author.Rules.{rules}
+use native.Mathlib.Omega.{arith}
+use Prim.Native.Nat.{◌-◌}
+use Rattle.algebra.specs.Algebra.{one_of}
+use Rattle.algebra.proofs.Joins.{Joining, joining_starts, joining_turn, product_refused, product_ends}
+use Rattle.dual3.specs.Rules.{dual3_mul, dual3_algebra, dual3_layout}
+use Rattle.dual3.proofs.Flat.{dual3_laws}
+use Rattle.dual3.proofs.records.product.Goals as goal
+
+pub returns-then-floats-ne0 : goal.returns-then-floats-ne0
+returns-then-floats-ne0 c = search (rules, product_refused dual3_laws)
+
+pub loop-p-init : goal.loop-p-init
+loop-p-init c = joining_starts dual3_laws
+
+pub loop-p-preserved : goal.loop-p-preserved
+loop-p-preserved c = search (rules, joining_turn dual3_laws)
+
+pub returns : goal.returns
+returns c = search (rules, product_ends dual3_laws)

@@ -1,0 +1,21 @@
+-- The loop keeps: what is left to multiply gives the whole product (Joins, over any record).
+use borrow.Author.Rules.{rules}
+use native.Mathlib.Omega.{arith}
+use Prim.Native.Nat.{◌-◌}
+use Rattle.algebra.specs.Algebra.{one_of}
+use Rattle.algebra.proofs.Joins.{Joining, joining_starts, joining_turn, product_refused, product_ends}
+use Rattle.hyperdual.specs.Rules.{hyper_dual_mul, hyper_dual_algebra, hyper_dual_layout}
+use Rattle.hyperdual.proofs.Flat.{hyper_dual_laws}
+use Rattle.hyperdual.proofs.records.product.Goals as goal
+
+pub returns-then-floats-ne0 : goal.returns-then-floats-ne0
+returns-then-floats-ne0 c = search (rules, product_refused hyper_dual_laws)
+
+pub loop-p-init : goal.loop-p-init
+loop-p-init c = joining_starts hyper_dual_laws
+
+pub loop-p-preserved : goal.loop-p-preserved
+loop-p-preserved c = search (rules, joining_turn hyper_dual_laws)
+
+pub returns : goal.returns
+returns c = search (rules, product_ends hyper_dual_laws)

@@ -1,0 +1,15 @@
+-- The loop keeps: what is left to multiply gives the whole product (Joins, over any record).
+use borrow.Author.Rules.{rules}
+use native.Mathlib.Omega.{arith}
+use Prim.Native.Nat.{◌-◌}
+use Rattle.algebra.specs.Algebra.{one_of}
+use Rattle.algebra.proofs.Joins.{Joining, joining_starts, joining_turn, product_refused, product_ends}
+use Rattle.hyperdual.specs.Rules.{hyper_dual_mul, hyper_dual_algebra, hyper_dual_layout}
+use Rattle.hyperdual.proofs.Flat.{hyper_dual_laws}
+use Rattle.hyperdual.proofs.records.product.Given as goal
+
+abbrev pub invariant-loop-p : goal.invariant-loop-p
+invariant-loop-p l = Joining hyper_dual_layout hyper_dual_mul (one_of hyper_dual_algebra) l.floats l.acc l.p
+
+abbrev pub decreases-loop-p : goal.decreases-loop-p
+decreases-loop-p l = l.count - l.p

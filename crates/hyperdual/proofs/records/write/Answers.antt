@@ -1,0 +1,16 @@
+-- The floats that are stored are the parts of x at record `at`: one law over any record (Cells).
+use borrow.Author.Rules.{rules}
+use native.Mathlib.Omega.{arith}
+use lib.ListN.{length-set}
+use Rattle.algebra.proofs.Cells.{write_record}
+use Rattle.hyperdual.proofs.Flat.{hyper_dual_laws}
+use Rattle.hyperdual.proofs.records.write.Goals as goal
+
+pub bounds-floats-first-2 : goal.bounds-floats-first-2
+bounds-floats-first-2 c = simp length-set (omega arith)
+
+pub bounds-floats-first-3 : goal.bounds-floats-first-3
+bounds-floats-first-3 c = simp length-set (omega arith)
+
+pub returns : goal.returns
+returns c = search (rules, write_record hyper_dual_laws)

@@ -1,9 +1,0 @@
--- The body is the rule's own operations in its order.
-use mathlib.Core.Path.{refl}
-use Rattle.hyperhyperdual.specs.Rules.{hyper_hyper_dual_div_float}
-use Rattle.hyperhyperdual.proofs.HyperHyperDual.div_float.Statement.{statement}
-use Rattle.hyperhyperdual.proofs.HyperHyperDual.div_float.Tie as tie
-
-pub div_float_spec : {M : Type 1} → statement M
-unfolding hyper_hyper_dual_div_float
-div_float_spec = tie.close (tie.spec (λ c. refl))

@@ -1,0 +1,21 @@
+-- The loop keeps: what is left to multiply gives the whole product (Joins, over any record).
+use borrow.Author.Rules.{rules}
+use native.Mathlib.Omega.{arith}
+use Prim.Native.Nat.{◌-◌}
+use Rattle.algebra.specs.Algebra.{one_of}
+use Rattle.algebra.proofs.Joins.{Joining, joining_starts, joining_turn, product_refused, product_ends}
+use Rattle.hyperhyperdual.specs.Rules.{hyper_hyper_dual_mul, hyper_hyper_dual_algebra, hyper_hyper_dual_layout}
+use Rattle.hyperhyperdual.proofs.Flat.{hyper_hyper_dual_laws}
+use Rattle.hyperhyperdual.proofs.records.product.Goals as goal
+
+pub returns-then-floats-ne0 : goal.returns-then-floats-ne0
+returns-then-floats-ne0 c = search (rules, product_refused hyper_hyper_dual_laws)
+
+pub loop-p-init : goal.loop-p-init
+loop-p-init c = joining_starts hyper_hyper_dual_laws
+
+pub loop-p-preserved : goal.loop-p-preserved
+loop-p-preserved c = search (rules, joining_turn hyper_hyper_dual_laws)
+
+pub returns : goal.returns
+returns c = search (rules, product_ends hyper_hyper_dual_laws)

@@ -1,0 +1,15 @@
+-- The loop keeps: what is left to add gives the whole sum (Joins, over any record).
+use borrow.Author.Rules.{rules}
+use native.Mathlib.Omega.{arith}
+use Prim.Native.Nat.{◌-◌}
+use Rattle.algebra.specs.Algebra.{zero_of}
+use Rattle.algebra.proofs.Joins.{Joining, joining_starts, joining_turn, sum_refused, sum_ends}
+use Rattle.hyperhyperdual.specs.Rules.{hyper_hyper_dual_add, hyper_hyper_dual_algebra, hyper_hyper_dual_layout}
+use Rattle.hyperhyperdual.proofs.Flat.{hyper_hyper_dual_laws}
+use Rattle.hyperhyperdual.proofs.records.sum.Given as goal
+
+abbrev pub invariant-loop-p : goal.invariant-loop-p
+invariant-loop-p l = Joining hyper_hyper_dual_layout hyper_hyper_dual_add (zero_of hyper_hyper_dual_algebra) l.floats l.acc l.p
+
+abbrev pub decreases-loop-p : goal.decreases-loop-p
+decreases-loop-p l = l.count - l.p
