@@ -3,7 +3,9 @@ ghost use Rattle.std.specs.Prelude.{◌≡◌, false};
 ghost use Rattle.replay.specs.Tally.{one_more, tally, counted_of, begun_of, after_of};
 
 use super::{Byte, Place, Read};
-use libc::STDOUT_FILENO;
+
+// The descriptor of standard output.
+const STDOUT: i32 = 1;
 
 // How many cases were compared, and how many differ.
 #[derive(Clone, Copy)]
@@ -161,10 +163,10 @@ pub fn ended(file: i32, buffer: &mut [u8; super::BUFFER], run: Run) -> Tally {
 
 // Prints NAME: N compared, M different.
 pub fn report(name: &[u8], t: Tally) {
-    io::write_all(STDOUT_FILENO, name);
-    io::write_all(STDOUT_FILENO, b": ");
-    io::print_decimal(STDOUT_FILENO, t.compared);
-    io::write_all(STDOUT_FILENO, b" compared, ");
-    io::print_decimal(STDOUT_FILENO, t.different);
-    io::write_all(STDOUT_FILENO, b" different\n");
+    io::write_all(STDOUT, name);
+    io::write_all(STDOUT, b": ");
+    io::print_decimal(STDOUT, t.compared);
+    io::write_all(STDOUT, b" compared, ");
+    io::print_decimal(STDOUT, t.different);
+    io::write_all(STDOUT, b" different\n");
 }
