@@ -1,5 +1,6 @@
 -- By what the reader found; whatever was asked can be. Assumes nothing.
 use borrow.Author.Rules.{rules}
+use mathlib.Core.Path.{refl}
 use Rattle.rootsteps.proofs.Asking.{askable}
 use Rattle.rootsteps.proofs.Lines.{output_of_steps, output_of_unreadable}
 use Rattle.rootsteps.proofs.run.Goals as goal
@@ -9,8 +10,12 @@ steps-requires c = search (rules, askable)
 
 -- what was asked, what the case is, and what was written for it
 pub returns-in-Steps : goal.returns-in-Steps
-returns-in-Steps c = output_of_steps _ _ _ _ _ c.request.ensures _ _ c.number-1.given.1 c.steps.ensures
+returns-in-Steps c =
+    let all = output_of_steps _ _ _ _ _ c.in-Steps.ensures _ _ refl c.steps.ensures in
+    record { result_after = all.0; prefix_len = all.1 }
 
 -- the same of a text that asks nothing
 pub returns-in-Unreadable : goal.returns-in-Unreadable
-returns-in-Unreadable c = output_of_unreadable _ _ _ _ _ c.request.ensures c.enum_told-1.given.1 c.bytes.ensures
+returns-in-Unreadable c =
+    let all = output_of_unreadable _ _ _ _ _ c.in-Unreadable.ensures refl c.bytes.ensures in
+    record { result_after = all.0; prefix_len = all.1 }

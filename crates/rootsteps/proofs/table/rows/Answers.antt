@@ -42,4 +42,4 @@ returns c =
     let none = c.loop-found-test.false in
     let so_far = c.loop-found.invariant in
     let last = stepping_last _ _ _ _ _ _ _ so_far none in
-    (stepping_all _ _ _ _ _ _ _ so_far none, (ap (λ (f : Found). f.twice / 2) last, ap (λ (f : Found). f.rest) last))
+    record { at_after = stepping_all _ _ _ _ _ _ _ so_far none; root_value = (ap (λ (f : Found). f.twice / 2) last, ap (λ (f : Found). f.rest) last) }

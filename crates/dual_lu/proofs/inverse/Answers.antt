@@ -1,0 +1,17 @@
+-- The number 0 allows the work; each way out is one of the promise (EntriesAnswered).
+use borrow.Author.Rules.{rules}
+use Rattle.dual.specs.Rules.{dual_algebra, dual_layout}
+use Rattle.matrices.proofs.Answers.{inverse_refused}
+use Rattle.matrices.proofs.EntriesAnswered.{inverse_allowed, inverse_answers}
+use Rattle.dual.proofs.Flat.{dual_laws}
+use Rattle.dual_lu.proofs.inverse.Goals as goal
+
+pub returns-then-number-ne0 : goal.returns-then-number-ne0
+returns-then-number-ne0 c = search (rules, inverse_refused dual_algebra dual_layout)
+
+-- the number is 0: the lengths are the wanted ones, the order is one
+pub inverse_run-requires : goal.inverse_run-requires
+inverse_run-requires c = inverse_allowed dual_laws _ _ _ _ _ c.inverse-number.ensures c.if-number-ne0.false
+
+pub returns : goal.returns
+returns c = search (rules, inverse_answers dual_laws)

@@ -1,0 +1,17 @@
+-- The number 0 allows the work; each way out is one of the promise (EntriesAnswered).
+use borrow.Author.Rules.{rules}
+use Rattle.dual.specs.Rules.{dual_algebra, dual_layout}
+use Rattle.matrices.proofs.Answers.{solve_refused}
+use Rattle.matrices.proofs.EntriesAnswered.{solve_allowed, solve_answers}
+use Rattle.dual.proofs.Flat.{dual_laws}
+use Rattle.dual_lu.proofs.solve.Goals as goal
+
+pub returns-then-number-ne0 : goal.returns-then-number-ne0
+returns-then-number-ne0 c = search (rules, solve_refused dual_algebra dual_layout)
+
+-- the number is 0: the lengths are the wanted ones, the order is one
+pub solve_run-requires : goal.solve_run-requires
+solve_run-requires c = let s = c.args in solve_allowed dual_laws _ _ _ s.b.now s.x.now _ c.solve-number.ensures c.if-number-ne0.false
+
+pub returns : goal.returns
+returns c = search (rules, solve_answers dual_laws)

@@ -1,0 +1,24 @@
+-- The loop keeps: the columns left to run give the inverse (StartsWritten).
+use borrow.Author.Rules.{rules}
+use Prim.Native.Nat.{◌-◌}
+use Rattle.matrices.specs.Matrix.{Square}
+use Rattle.matrices.proofs.Places.{strided_column}
+use Rattle.matrices.proofs.Turns.{run_turn, run_end}
+use Rattle.matrices.proofs.StartsWritten.{Inverting, inverse_start}
+use Rattle.dual.proofs.Flat.{dual_laws}
+use Rattle.dual_substitution.proofs.inverse_run.Goals as goal
+
+pub loop-j-init : goal.loop-j-init
+loop-j-init c = search (rules, inverse_start dual_laws)
+
+-- column j is a vector in the floats
+pub substitute-requires-clause-strided : goal.substitute-requires-clause-strided
+substitute-requires-clause-strided c =
+    let sq : Square 2 c.args.n c.loop-j.x = search rules in
+    strided_column 2 _ _ _ sq c.loop-j-test.true
+
+pub loop-j-preserved : goal.loop-j-preserved
+loop-j-preserved c = search (rules, run_turn dual_laws)
+
+pub returns : goal.returns
+returns c = search (rules, run_end dual_laws)

@@ -1,0 +1,14 @@
+-- The loop keeps: the products left to take give the whole row (Substitution).
+use borrow.Author.Rules.{rules}
+use Prim.Native.Nat.{◌+◌, ◌*◌, ◌≤◌, ◌-◌}
+use lib.ListN.{length}
+use native.Mathlib.Omega.{arith}
+use Rattle.matrices.proofs.Substitution.{Lessening, lessening, less_turn, less_end}
+use Rattle.dual.proofs.Flat.{dual_laws}
+use Rattle.dual_substitution.proofs.less_row.Given as goal
+
+abbrev pub invariant-loop-k : goal.invariant-loop-k
+invariant-loop-k l = Lessening dual_laws l.n l.a l.x l.stride l.base l.i l.lo l.hi l.initial.r l.r l.k
+
+abbrev pub decreases-loop-k : goal.decreases-loop-k
+decreases-loop-k l = l.hi - l.k

@@ -1,0 +1,12 @@
+-- All starts written first give what the definition's, row by row, give (StartsWritten).
+use borrow.Author.Rules.{rules}
+use Rattle.matrices.proofs.Places.{whole_kept}
+use Rattle.matrices.proofs.StartsWritten.{solved}
+use Rattle.dual.proofs.Flat.{dual_laws}
+use Rattle.dual_substitution.proofs.solve_run.Goals as goal
+
+pub substitute-requires : goal.substitute-requires
+substitute-requires c = search (rules, whole_kept)
+
+pub returns : goal.returns
+returns c = search (rules, solved dual_laws)

@@ -1,0 +1,18 @@
+-- The loop keeps: the columns left to run give LU (ColumnsRun).
+use borrow.Author.Rules.{rules}
+use Prim.Native.Nat.{◌-◌}
+use Rattle.matrices.proofs.ColumnsRun.{Columns, columns_start, columns_turn, columns_stop, columns_end}
+use Rattle.hyperdual.proofs.Flat.{hyper_dual_laws}
+use Rattle.hyperdual_columns.proofs.run_columns.Goals as goal
+
+pub loop-i-init : goal.loop-i-init
+loop-i-init c = search (rules, columns_start hyper_dual_laws)
+
+pub returns-in_default : goal.returns-in_default
+returns-in_default c = search (rules, columns_stop hyper_dual_laws)
+
+pub loop-i-preserved : goal.loop-i-preserved
+loop-i-preserved c = search (rules, columns_turn hyper_dual_laws)
+
+pub returns : goal.returns
+returns c = search (rules, columns_end hyper_dual_laws)

@@ -1,0 +1,12 @@
+-- The loop keeps: the multiplier as it is, and what is left to run gives the whole row (RowsReduced).
+use borrow.Author.Rules.{rules}
+use Prim.Native.Nat.{◌-◌}
+use Rattle.matrices.proofs.RowsReduced.{Subtracting, subtract_start, subtract_turn, subtract_end}
+use Rattle.hyperdual.proofs.Flat.{hyper_dual_laws}
+use Rattle.hyperdual_columns.proofs.subtract_row.Given as goal
+
+abbrev pub invariant-loop-k : goal.invariant-loop-k
+invariant-loop-k l = Subtracting hyper_dual_laws l.n l.initial.a l.i l.j l.x l.a l.k
+
+abbrev pub decreases-loop-k : goal.decreases-loop-k
+decreases-loop-k l = l.n - l.k

@@ -1,0 +1,17 @@
+-- The number 0 allows the work; each way out is one of the promise (EntriesAnswered).
+use borrow.Author.Rules.{rules}
+use Rattle.hyperdual.specs.Rules.{hyper_dual_algebra, hyper_dual_layout}
+use Rattle.matrices.proofs.Answers.{lu_refused}
+use Rattle.matrices.proofs.EntriesAnswered.{lu_allowed, lu_answers}
+use Rattle.hyperdual.proofs.Flat.{hyper_dual_laws}
+use Rattle.hyperdual_lu.proofs.lu.Goals as goal
+
+pub returns-then-number-ne0 : goal.returns-then-number-ne0
+returns-then-number-ne0 c = search (rules, lu_refused hyper_dual_algebra hyper_dual_layout)
+
+-- the number is 0: the lengths are the wanted ones
+pub factor-requires : goal.factor-requires
+factor-requires c = lu_allowed hyper_dual_laws _ _ _ c.args.order.now _ c.lu-number.ensures c.if-number-ne0.false
+
+pub returns : goal.returns
+returns c = search (rules, lu_answers hyper_dual_laws)

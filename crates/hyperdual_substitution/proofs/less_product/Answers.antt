@@ -1,0 +1,6 @@
+-- The body is the definition's own operations in its order, so that every need is found.
+use borrow.Author.Rules.{rules}
+use Rattle.hyperdual_substitution.proofs.less_product.Goals as goal
+
+pub returns : goal.returns
+returns c = cc

@@ -1,0 +1,19 @@
+-- The loop keeps: what was passed holds what its word says (Filling).
+use borrow.Author.Rules.{rules}
+use Prim.Native.Nat.{◌-◌}
+use lib.ListN.{length, get_or}
+use Rattle.floats.proofs.Fill.{Filling, filling_none, filling_more, filling_all}
+use Rattle.replay_matrices.proofs.order_of.Goals as goal
+
+pub loop-i-init : goal.loop-i-init
+loop-i-init c = filling_none _ _ _
+
+-- the word at i
+pub loop-i-preserved : goal.loop-i-preserved
+loop-i-preserved c = filling_more _ _ _ _ _ c.loop-i.invariant _ (search rules) c.word_at.ensures
+
+pub shape_of-order : goal.shape_of-order
+shape_of-order c = c.loop-i.invariant.long
+
+pub returns : goal.returns
+returns c = search (rules, filling_all)
