@@ -11,7 +11,9 @@ returns-then-number-ne0 c = search (rules, lu_refused dual_algebra dual_layout)
 
 -- the number is 0: the lengths are the wanted ones
 pub factor-requires : goal.factor-requires
-factor-requires c = lu_allowed dual_laws _ _ _ c.args.order.now _ c.lu-number.ensures c.if-number-ne0.false
+factor-requires c =
+    let allowed = lu_allowed dual_laws _ _ _ c.args.order.now _ c.lu-number.ensures c.if-number-ne0.false in
+    record { square = allowed.0; square_2 = allowed.1.0; order_len = allowed.1.1 }
 
 pub returns : goal.returns
 returns c = search (rules, lu_answers dual_laws)

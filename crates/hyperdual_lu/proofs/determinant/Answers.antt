@@ -9,4 +9,6 @@ returns-then-number-ne0 c = search (rules, determinant_unfit hyper_dual_laws)
 
 -- the number is 0: the lengths are the wanted ones
 pub determinant_of-requires : goal.determinant_of-requires
-determinant_of-requires c = determinant_allowed hyper_dual_laws _ _ _ _ c.determinant-number.ensures c.if-number-ne0.false
+determinant_of-requires c =
+    let allowed = determinant_allowed hyper_dual_laws _ _ _ _ c.determinant-number.ensures c.if-number-ne0.false in
+    record { square = allowed.0; order_len = allowed.1 }

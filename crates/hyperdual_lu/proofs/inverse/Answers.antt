@@ -11,7 +11,9 @@ returns-then-number-ne0 c = search (rules, inverse_refused hyper_dual_algebra hy
 
 -- the number is 0: the lengths are the wanted ones, the order is one
 pub inverse_run-requires : goal.inverse_run-requires
-inverse_run-requires c = inverse_allowed hyper_dual_laws _ _ _ _ _ c.inverse-number.ensures c.if-number-ne0.false
+inverse_run-requires c =
+    let allowed = inverse_allowed hyper_dual_laws _ _ _ _ _ c.inverse-number.ensures c.if-number-ne0.false in
+    record { square = allowed.0; order = allowed.1.0; square_2 = allowed.1.1 }
 
 pub returns : goal.returns
 returns c = search (rules, inverse_answers hyper_dual_laws)
