@@ -4,6 +4,8 @@
 
 use replay::tally::{Compared, Tally};
 use replay::{Place, bytes, same, tally};
+use std::fs::File;
+use std::os::fd::AsRawFd;
 
 // One case: the lengths of the input and the output, the input, the output.
 fn case(file: i32, buffer: &mut [u8; replay::BUFFER], place: Place) -> Compared {
@@ -40,18 +42,15 @@ fn cases(file: i32) -> Tally {
 }
 
 // Replays a file, and reports it by a name.
-fn replay_file(path: &[u8], name: &[u8]) {
-    let file = os::open_read(path);
-    if file < 0 {
-        os::fail(path);
-        return;
-    }
-    let t = cases(file);
-    libc::close(file);
+fn replay_file(rt: &HostRuntime, path: &str, name: &[u8]) -> std::io::Result<()> {
+    let file = File::open(rt, path)?;
+    let t = cases(file.as_raw_fd());
     tally::report(name, t);
+    Ok(())
 }
 
-fn main() {
-    replay_file(b"dualrun.txt", b"dualrun");
-    replay_file(b"damaged.txt", b"damaged");
+fn main(rt: HostRuntime) -> std::io::Result<()> {
+    replay_file(&rt, "dualrun.txt", b"dualrun")?;
+    replay_file(&rt, "damaged.txt", b"damaged")?;
+    Ok(())
 }

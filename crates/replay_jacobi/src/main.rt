@@ -7,6 +7,8 @@ ghost use Rattle.std.specs.Prelude.{◌≡◌, ◌&&◌};
 ghost use Rattle.jacobi.specs.Answer.{outcome};
 ghost use Rattle.replay_jacobi.specs.Runs.{spoiled_at, spoiled_of, same_run};
 
+use std::fs::File;
+use std::os::fd::AsRawFd;
 use jacobi::JacobiAnswer;
 use replay::tally::{Compared, Tally};
 use replay::{Place, tally};
@@ -206,13 +208,9 @@ fn cases(file: i32) -> Tally {
     tally::ended(file, &mut buffer, run)
 }
 
-fn main() {
-    let file = os::open_read(b"jacobi.txt");
-    if file < 0 {
-        os::fail(b"jacobi.txt");
-        return;
-    }
-    let t = cases(file);
-    libc::close(file);
+fn main(rt: HostRuntime) -> std::io::Result<()> {
+    let file = File::open(&rt, "jacobi.txt")?;
+    let t = cases(file.as_raw_fd());
     tally::report(b"jacobi", t);
+    Ok(())
 }

@@ -15,6 +15,8 @@ ghost use Rattle.replay_lu.specs.Over.{fields_of};
 use replay::tally::{Compared, Tally};
 use replay::{Place, tally};
 use replay_matrices::Numbers;
+use std::fs::File;
+use std::os::fd::AsRawFd;
 
 // The entry that a file is of.
 const LU: u8 = 0;
@@ -111,31 +113,41 @@ fn cases(entry: u8, width: usize, file: i32) -> Tally
 }
 
 // Replays a file, and reports it by a name.
-fn replay_file(entry: u8, width: usize, path: &[u8], name: &[u8])
+fn replay_file(
+    rt: &HostRuntime,
+    entry: u8,
+    width: usize,
+    path: &str,
+    name: &[u8],
+) -> std::io::Result<()>
     requires { width ≤ widest }
 {
-    let file = os::open_read(path);
-    if file < 0 {
-        os::fail(path);
-        return;
-    }
-    let t = cases(entry, width, file);
-    libc::close(file);
+    let file = File::open(rt, path)?;
+    let t = cases(entry, width, file.as_raw_fd());
     tally::report(name, t);
+    Ok(())
 }
 
-fn main() {
-    replay_file(LU, 2, b"lu.txt", b"lu");
-    replay_file(SOLVE, 2, b"solve.txt", b"solve");
-    replay_file(DETERMINANT, 2, b"determinant.txt", b"determinant");
-    replay_file(INVERSE, 2, b"inverse.txt", b"inverse");
-    replay_file(LU, 4, b"lu-hyperdual.txt", b"hyperdual lu");
-    replay_file(SOLVE, 4, b"solve-hyperdual.txt", b"hyperdual solve");
+fn main(rt: HostRuntime) -> std::io::Result<()> {
+    replay_file(&rt, LU, 2, "lu.txt", b"lu")?;
+    replay_file(&rt, SOLVE, 2, "solve.txt", b"solve")?;
+    replay_file(&rt, DETERMINANT, 2, "determinant.txt", b"determinant")?;
+    replay_file(&rt, INVERSE, 2, "inverse.txt", b"inverse")?;
+    replay_file(&rt, LU, 4, "lu-hyperdual.txt", b"hyperdual lu")?;
+    replay_file(&rt, SOLVE, 4, "solve-hyperdual.txt", b"hyperdual solve")?;
     replay_file(
+        &rt,
         DETERMINANT,
         4,
-        b"determinant-hyperdual.txt",
+        "determinant-hyperdual.txt",
         b"hyperdual determinant",
-    );
-    replay_file(INVERSE, 4, b"inverse-hyperdual.txt", b"hyperdual inverse");
+    )?;
+    replay_file(
+        &rt,
+        INVERSE,
+        4,
+        "inverse-hyperdual.txt",
+        b"hyperdual inverse",
+    )?;
+    Ok(())
 }

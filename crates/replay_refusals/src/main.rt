@@ -5,6 +5,8 @@
 
 mod entries;
 
+use std::fs::File;
+use std::os::fd::AsRawFd;
 use replay::tally::{Compared, Tally};
 use replay::{Place, Read, tally};
 use replay_outcomes::Outcome;
@@ -61,13 +63,9 @@ fn cases(file: i32) -> Tally {
     tally::ended(file, &mut buffer, run)
 }
 
-fn main() {
-    let file = os::open_read(b"refusals.txt");
-    if file < 0 {
-        os::fail(b"refusals.txt");
-        return;
-    }
-    let t = cases(file);
-    libc::close(file);
+fn main(rt: HostRuntime) -> std::io::Result<()> {
+    let file = File::open(&rt, "refusals.txt")?;
+    let t = cases(file.as_raw_fd());
     tally::report(b"refusals", t);
+    Ok(())
 }

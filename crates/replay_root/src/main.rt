@@ -8,6 +8,8 @@ ghost use Rattle.std.specs.Float.Ieee.{to_bits};
 
 use replay::tally::{Compared, Tally};
 use replay::{Place, tally};
+use std::fs::File;
+use std::os::fd::AsRawFd;
 
 // Whether the word is that of the root.
 fn same_root(word: u64, root: f64) -> bool
@@ -41,13 +43,9 @@ fn cases(file: i32) -> Tally {
     tally::ended(file, &mut buffer, run)
 }
 
-fn main() {
-    let file = os::open_read(b"root.txt");
-    if file < 0 {
-        os::fail(b"root.txt");
-        return;
-    }
-    let t = cases(file);
-    libc::close(file);
+fn main(rt: HostRuntime) -> std::io::Result<()> {
+    let file = File::open(&rt, "root.txt")?;
+    let t = cases(file.as_raw_fd());
     tally::report(b"root", t);
+    Ok(())
 }
