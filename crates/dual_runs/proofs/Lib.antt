@@ -1,4 +1,3 @@
--- One walk of both functions, their agreement with the flat ones, and that their promises leave one answer. Assumes nothing.
-mod Fold
+-- The agreement of both functions with the flat ones, and that their promises leave one answer. Assumes nothing.
 pub mod Agree
 mod OneAnswer

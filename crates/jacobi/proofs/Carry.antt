@@ -1,6 +1,6 @@
 -- What carries a run of Jacobi over one record to the run over another: a map of records that keeps the operations, and a map of matrices that keeps what
 -- stands on and above the diagonal. Once over the record. Assumes nothing.
-use Prim.Native.Nat.{ℕ, zero, ◌+◌, ◌-◌, ◌*◌}
+use Prim.Native.Nat.{ℕ, ◌+◌, ◌-◌, ◌*◌}
 use mathlib.Core.Path.{◌≡◌, refl, ap, ◌∙◌}
 use mathlib.Core.Bool.{cond}
 use mathlib.Core.List.{List, map}

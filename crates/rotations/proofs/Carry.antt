@@ -1,6 +1,6 @@
 -- What carries a rotation over one record to the rotation over another: a map of records that keeps the operations, and a map of matrices that keeps what
 -- stands on and above the diagonal. Once over the record. Assumes nothing.
-use Prim.Native.Nat.{ℕ, zero, ◌+◌, ◌*◌, ◌≤◌, ◌<◌}
+use Prim.Native.Nat.{ℕ, ◌+◌, ◌*◌, ◌≤◌, ◌<◌}
 use mathlib.Core.Path.{◌≡◌, refl, ap, sym, ◌∙◌}
 use mathlib.Core.Bool.{cond, ◌&&◌}
 use mathlib.Core.List.{List, map}

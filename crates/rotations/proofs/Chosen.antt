@@ -9,7 +9,6 @@ use Rattle.real.specs.Operations.{half}
 use Rattle.real.specs.Sign.{sign_of, abs_of}
 use Rattle.algebra.specs.Algebra.{Algebra, magnitude}
 use Rattle.derivatives.specs.Apply.{recip_of}
-use Rattle.rotations.specs.declared.Choice.{Choice}
 use Rattle.rotations.specs.declared.Choice.TheVariants.{Keep, Clear, Rotate}
 use Rattle.rotations.specs.Rotation.{gap_of, absorbed, choice_of, hypotenuse_of, tangent_of, rotation_tangent}
 

@@ -1,0 +1,11 @@
+-- The sums are added, copied, and what was added is cleared.
+use borrow.Author.Rules.{rules}
+use Rattle.dual.proofs.Flat.{dual_laws}
+use Rattle.jacobi.proofs.Scratch.{blank, copied}
+use Rattle.jacobi.proofs.sweeps.close_sweep.Goals as goal
+
+pub returns-clause-d_after : goal.returns-clause-d_after
+returns-clause-d_after c = search (rules, copied dual_laws)
+
+pub returns-clause-zw_after : goal.returns-clause-zw_after
+returns-clause-zw_after c = search (rules, blank dual_laws)

@@ -1,0 +1,21 @@
+-- Each arm of the match is a case of the definition's choice, which was made from the entry and the two diagonal entries as they were.
+use borrow.Author.Rules.{rules}
+use Rattle.dual.specs.Rules.{dual_algebra}
+use Rattle.rotations.proofs.Turned.{pair_keep, pair_clear, pair_rotate}
+use Rattle.rotations.proofs.pair.pair.Goals as goal
+
+-- what the caller showed
+pub rotate-requires : goal.rotate-requires
+rotate-requires c = record { sized = c.requires.sized; p_lt_q = c.requires.p_lt_q; rotations_lt_many_rotations = c.requires.rotations_lt_many_rotations }
+
+-- kept: all is as it was
+pub returns-in-Keep-clause-result_after : goal.returns-in-Keep-clause-result_after
+returns-in-Keep-clause-result_after c = pair_keep dual_algebra _ _ _ _ _ _ _ _ _ _ _ _ _ _ (record { entry = search rules; first = search rules; second = search rules }) c.choose-choice.ensures c.in-Keep.is
+
+-- cleared: the entry alone is zero
+pub returns-in-Clear-clause-result_after : goal.returns-in-Clear-clause-result_after
+returns-in-Clear-clause-result_after c = pair_clear dual_algebra _ _ _ _ _ _ _ _ _ _ _ _ _ _ (record { entry = search rules; first = search rules; second = search rules }) c.choose-choice.ensures _ c.in-Clear.is (search rules)
+
+-- rotated: by the angle of the three entries
+pub returns-in-Rotate-clause-result_after : goal.returns-in-Rotate-clause-result_after
+returns-in-Rotate-clause-result_after c = pair_rotate dual_algebra _ _ _ _ _ _ _ _ _ _ _ _ _ _ (record { entry = search rules; first = search rules; second = search rules }) c.choose-choice.ensures _ _ c.in-Rotate.is c.angle-t.ensures (search rules)

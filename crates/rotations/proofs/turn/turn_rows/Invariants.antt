@@ -1,0 +1,14 @@
+-- The loop keeps: what is left to turn gives the rows whole.
+use Prim.Native.Nat.{◌-◌}
+use Rattle.dual.specs.Rules.{dual_algebra, dual_records}
+use Rattle.dual.proofs.Flat.{dual_laws}
+use Rattle.matrices.proofs.Turns.{Running}
+use Rattle.matrices.specs.Matrix.{Square}
+use Rattle.rotations.specs.Rotation.{turn, turn_rows}
+use Rattle.rotations.proofs.turn.turn_rows.Given as goal
+
+abbrev pub invariant-loop-j : goal.invariant-loop-j
+invariant-loop-j l = Square 2 l.n l.a × Running dual_laws (λ j. turn dual_algebra l.n l.s l.tau l.p j l.q j) l.n l.initial.a l.a l.j (turn_rows dual_algebra l.n l.s l.tau l.p l.q (dual_records l.initial.a))
+
+abbrev pub decreases-loop-j : goal.decreases-loop-j
+decreases-loop-j l = l.n - l.j
