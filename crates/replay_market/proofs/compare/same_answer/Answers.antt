@@ -8,8 +8,7 @@ use Rattle.algebra.specs.Outcome.{Outcome, number_of}
 use Rattle.replay_market.specs.declared.compare.Recorded.{Recorded}
 use Rattle.replay_market.specs.Cases.{count_in, same_answer}
 use borrow.Author.Rules.{rules}
-use Rattle.replay_market.proofs.compare.same_answer.Statement.{statement}
-use Rattle.replay_market.proofs.compare.same_answer.Tie as tie
+use Rattle.replay_market.proofs.compare.same_answer.Goals as goal
 
 module _ (wanted : Recorded) (answer : Outcome ℕ) (number : ℕ) (told : number ≡ number_of answer) where
   number_differs : (wanted.number ≡ number → ⊥) → false ≡ same_answer wanted answer
@@ -20,11 +19,8 @@ module _ (wanted : Recorded) (answer : Outcome ℕ) (number : ℕ) (told : numbe
   unfolding same_answer
   by_count e count told-count = rw (← told, eq-eqb _ _ e, told-count)
 
-pub same_answer_spec : {M : Type 1} → statement M
-same_answer_spec =
-    tie.close
-    (tie.spec
-    (λ c κs. search rules) (λ c. search rules)
-    (λ c. search (rules, number_differs))
-    (λ c κs. search rules)
-    (λ c. search (rules, by_count)))
+pub returns-then-wanted-number : goal.returns-then-wanted-number
+returns-then-wanted-number c = search (rules, number_differs)
+
+pub returns : goal.returns
+returns c = search (rules, by_count)

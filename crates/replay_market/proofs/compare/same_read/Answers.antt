@@ -10,8 +10,7 @@ use Rattle.replay_matrices.specs.Cases.{same_floats}
 use Rattle.replay_market.specs.declared.compare.Recorded.{Recorded}
 use Rattle.replay_market.specs.Cases.{word_before, full_floats, same_answer, same_size, same_read}
 use borrow.Author.Rules.{rules}
-use Rattle.replay_market.proofs.compare.same_read.Statement.{statement}
-use Rattle.replay_market.proofs.compare.same_read.Tie as tie
+use Rattle.replay_market.proofs.compare.same_read.Goals as goal
 
 module _ (wanted : Recorded) (wanted-size : ℕ) (words : List ℕ) (answer size : Outcome ℕ) (floats : List Float) (a : Bool) (told : a ≡ same_answer wanted answer) where
   answer_differs : a ≡ false → false ≡ same_read wanted wanted-size words answer size floats
@@ -32,15 +31,14 @@ module _ (wanted : Recorded) (wanted-size : ℕ) (words : List ℕ) (answer size
       unfolding same_read
       done h e = rw (← told, answered, ← told-size, sized, eq-eqb _ _ h) e
 
-pub same_read_spec : {M : Type 1} → statement M
-same_read_spec =
-    tie.close
-    (tie.spec
-    (λ c κs. search rules)
-    (λ c. search (rules, answer_differs, not-true))
-    (λ c κs. search rules)
-    (λ c. search (rules, size_differs, not-true, not-false))
-    (λ c κs. search rules)
-    (λ c. search (rules, untouched, not-false))
-    (λ c κs. search rules)
-    (λ c. search (rules, done, not-false)))
+pub returns-then-not-same_answer : goal.returns-then-not-same_answer
+returns-then-not-same_answer c = search (rules, answer_differs, not-true)
+
+pub returns-then-not-same_size : goal.returns-then-not-same_size
+returns-then-not-same_size c = search (rules, size_differs, not-true, not-false)
+
+pub returns-then-wanted-ne0 : goal.returns-then-wanted-ne0
+returns-then-wanted-ne0 c = search (rules, untouched, not-false)
+
+pub returns : goal.returns
+returns c = search (rules, done, not-false)

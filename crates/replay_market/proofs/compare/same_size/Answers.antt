@@ -8,8 +8,7 @@ use Rattle.algebra.specs.Outcome.{Outcome, number_of}
 use Rattle.replay_market.specs.declared.compare.Recorded.{Recorded}
 use Rattle.replay_market.specs.Cases.{count_in, same_size}
 use borrow.Author.Rules.{rules}
-use Rattle.replay_market.proofs.compare.same_size.Statement.{statement}
-use Rattle.replay_market.proofs.compare.same_size.Tie as tie
+use Rattle.replay_market.proofs.compare.same_size.Goals as goal
 
 module _ (wanted : Recorded) (wanted-size : ℕ) (size : Outcome ℕ) (number : ℕ) (told : number ≡ number_of size) where
   number_differs : (wanted-size ≡ number → ⊥) → false ≡ same_size wanted wanted-size size
@@ -25,12 +24,11 @@ module _ (wanted : Recorded) (wanted-size : ℕ) (size : Outcome ℕ) (number : 
     unfolding same_size
     by_count h count told-count = rw (← told, eq-eqb _ _ e, eq-eqb _ _ h, told-count)
 
-pub same_size_spec : {M : Type 1} → statement M
-same_size_spec =
-    tie.close
-    (tie.spec
-    (λ c κs. search rules) (λ c. search rules)
-    (λ c. search (rules, number_differs))
-    (λ c. search (rules, not_done))
-    (λ c κs. search rules)
-    (λ c. search (rules, by_count)))
+pub returns-then-wanted_size-number : goal.returns-then-wanted_size-number
+returns-then-wanted_size-number c = search (rules, number_differs)
+
+pub returns-then-wanted-ne0 : goal.returns-then-wanted-ne0
+returns-then-wanted-ne0 c = search (rules, not_done)
+
+pub returns : goal.returns
+returns c = search (rules, by_count)

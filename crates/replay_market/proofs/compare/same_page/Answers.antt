@@ -11,8 +11,7 @@ use Rattle.replay.specs.Same.{same_numbers}
 use Rattle.replay.proofs.Alike.{lengths_differ}
 use Rattle.replay_market.specs.Cases.{full_numbers, same_page}
 use borrow.Author.Rules.{rules}
-use Rattle.replay_market.proofs.compare.same_page.Statement.{statement}
-use Rattle.replay_market.proofs.compare.same_page.Tie as tie
+use Rattle.replay_market.proofs.compare.same_page.Goals as goal
 
 module _ (text bytes : List ℕ) where
   too_few : length bytes < length text → false ≡ same_page text bytes
@@ -32,13 +31,14 @@ module _ (text bytes : List ℕ) where
     unfolding same_page
     by_rest h r e = rw (← told, h) (e ∙ ap (full_numbers 0) all_left)
 
-pub same_page_spec : {M : Type 1} → statement M
-same_page_spec =
-    tie.close
-    (tie.spec
-    (λ c. search (rules, too_few))
-    (λ c. sym (length-take-le _ _ (search rules)))
-    (λ c. search rules) (λ c. search rules) (λ c. search rules)
-    (λ c κs. search rules) (λ c κs. search rules)
-    (λ c. search (rules, by_rest))
-    (λ c. search (rules, text_differs)))
+pub returns-then-bytes-end : goal.returns-then-bytes-end
+returns-then-bytes-end c = search (rules, too_few)
+
+pub slice_bounds-start-end : goal.slice_bounds-start-end
+slice_bounds-start-end c = sym (length-take-le _ _ (search rules))
+
+pub returns-then-same_text : goal.returns-then-same_text
+returns-then-same_text c = search (rules, by_rest)
+
+pub returns : goal.returns
+returns c = search (rules, text_differs)

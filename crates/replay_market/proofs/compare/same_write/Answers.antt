@@ -8,8 +8,7 @@ use Rattle.algebra.specs.Outcome.{Outcome}
 use Rattle.replay_market.specs.declared.compare.Recorded.{Recorded}
 use Rattle.replay_market.specs.Cases.{byte_before, full_numbers, same_answer, same_page, same_write}
 use borrow.Author.Rules.{rules}
-use Rattle.replay_market.proofs.compare.same_write.Statement.{statement}
-use Rattle.replay_market.proofs.compare.same_write.Tie as tie
+use Rattle.replay_market.proofs.compare.same_write.Goals as goal
 
 module _ (wanted : Recorded) (text : List ℕ) (answer : Outcome ℕ) (bytes : List ℕ) (a : Bool) (told : a ≡ same_answer wanted answer) where
   answer_differs : a ≡ false → false ≡ same_write wanted text answer bytes
@@ -25,13 +24,11 @@ module _ (wanted : Recorded) (text : List ℕ) (answer : Outcome ℕ) (bytes : L
     unfolding same_write
     done h e = rw (← told, answered, eq-eqb _ _ h) e
 
-pub same_write_spec : {M : Type 1} → statement M
-same_write_spec =
-    tie.close
-    (tie.spec
-    (λ c κs. search rules)
-    (λ c. search (rules, answer_differs, not-true))
-    (λ c κs. search rules)
-    (λ c. search (rules, untouched, not-false))
-    (λ c κs. search rules)
-    (λ c. search (rules, done, not-false)))
+pub returns-then-not-same_answer : goal.returns-then-not-same_answer
+returns-then-not-same_answer c = search (rules, answer_differs, not-true)
+
+pub returns-then-wanted-ne0 : goal.returns-then-wanted-ne0
+returns-then-wanted-ne0 c = search (rules, untouched, not-false)
+
+pub returns : goal.returns
+returns c = search (rules, done, not-false)
