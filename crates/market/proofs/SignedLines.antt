@@ -30,21 +30,29 @@ neg_back (fin false m e) = refl
 module _ (v : ℕ) where
   not_below : (y : Float) → HasValue y false v 1 → lt y plus_nothing ≡ false
   unfolding lt
+  not_below nan h = elim h [ ]
+  not_below (inf _) h = elim h [ ]
   not_below (fin true m e) h = absurd (true≢false h.0)
   not_below (fin false m e) h = le-ltb (m * up e * down (pos 0)) (0 * up (pos 0) * down e) (let z : 0 * up (pos 0) * down e ≡ 0 = omega arith in omega arith)
 
   minus_below : (y : Float) → HasValue y false v 1 → 0 < v → lt (neg y) plus_nothing ≡ true
   unfolding lt neg
+  minus_below nan h some = elim h [ ]
+  minus_below (inf _) h some = elim h [ ]
   minus_below (fin true m e) h some = absurd (true≢false h.0)
   minus_below (fin false m e) h some = let g : 0 < v * down e = mul-pos some (down_pos e) in let q = h.1 in lt-ltb 0 (m * up e * down (pos 0) + 0 * up (pos 0) * down e) (omega arith)
 
   above_minus_one : (y : Float) → HasValue y false v 1 → lt (neg (of_bits binary64 0x3ff0_0000_0000_0000)) y ≡ true
   unfolding lt neg of_bits
+  above_minus_one nan h = elim h [ ]
+  above_minus_one (inf _) h = elim h [ ]
   above_minus_one (fin true m e) h = absurd (true≢false h.0)
   above_minus_one (fin false m e) h = let g = down_pos e in lt-ltb 0 (1 * up (pos 0) * down e + m * up e * down (pos 0)) (omega arith)
 
   below_top : (y : Float) → HasValue y false v 1 → v ≤ largest.whole → lt y (of_bits binary64 0x43f0_0000_0000_0000) ≡ true
   unfolding lt of_bits
+  below_top nan h small = elim h [ ]
+  below_top (inf _) h small = elim h [ ]
   below_top (fin true m e) h small = absurd (true≢false h.0)
   below_top (fin false m e) h small =
       let g = down_pos e in
@@ -54,6 +62,8 @@ module _ (v : ℕ) where
 
   itself : (y : Float) → HasValue y false v 1 → eq y y ≡ true
   unfolding eq
+  itself nan h = elim h [ ]
+  itself (inf _) h = elim h [ ]
   itself (fin true m e) h = absurd (true≢false h.0)
   itself (fin false m e) h = rw (eq-eqb (m * up e * down e) (m * up e * down e) refl)
 

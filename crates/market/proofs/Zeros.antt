@@ -34,15 +34,21 @@ vanish (suc v) d h e = absurd (let z : suc v * d ≡ v * d + d = omega arith in 
 -- x compares equal to the float of v, so it is finite and v in size
 equal_value : (y : Float) (v : ℕ) → HasValue y false v 1 → (s : Bool) (k : ℕ) (g : ℤ) → eq y (fin s k g) ≡ true → k * up g * 1 ≡ v * down g
 unfolding eq
+equal_value nan v h s k g q = elim h [ ]
+equal_value (inf _) v h s k g q = elim h [ ]
 equal_value (fin t m e) v h s k g q =
     cross (m * up e) (down e) (k * up g) (down g) v (down_pos e) h.1 (eqb-true (m * up e * down g) (k * up g * down e) (both_true (eqb (m * up e * down g) (k * up g * down e)) (beq t s || eqb (m * up e * down g) 0) q).0)
 
 not_nan : (y : Float) (v : ℕ) → HasValue y false v 1 → eq y nan ≡ true → ⊥
 unfolding eq
+not_nan nan v h q = elim h [ ]
+not_nan (inf _) v h q = elim h [ ]
 not_nan (fin t m e) v h q = true≢false (sym q)
 
 not_inf : (y : Float) (v : ℕ) (s : Bool) → HasValue y false v 1 → eq y (inf s) ≡ true → ⊥
 unfolding eq
+not_inf nan v s h q = elim h [ ]
+not_inf (inf _) v s h q = elim h [ ]
 not_inf (fin t m e) v s h q = true≢false (sym q)
 
 -- x with -0 as +0

@@ -2,7 +2,7 @@
 use Rattle.std.specs.Prelude.{ℕ, ◌-◌, ◌*◌, cond, ◌&&◌, List, ◌++◌, ltb, eqb, length, replicate, Float}
 use Rattle.refusals.specs.Number as refusal
 use Rattle.refusals.specs.Largest as largest
-use Rattle.algebra.specs.Outcome.{Outcome, value, refused}
+use Rattle.algebra.specs.Outcome.{value, refused}
 use Rattle.market.specs.Answers.{Left, answered}
 use Rattle.market.specs.Text.{text_of, is_writable}
 

@@ -129,12 +129,12 @@ module _ (w : ℕ) (a : List Float) where
     test_is =
         answer
         ∙ ap (λ (x : Float). cond (eqb part 0) (is_whole x) (eq x float.zero)) (get_or-inside a j nan float.zero inside)
-        ∙ ap (λ (k : ℕ). cond (eqb k 0) (is_whole (get_or a j float.zero)) (eq (get_or a j float.zero) float.zero)) here.part-is
+        ∙ ap (λ (k : ℕ). cond (eqb k 0) (is_whole (get_or a j float.zero)) (eq (get_or a j float.zero) float.zero)) here.part_is
 
     pub fitting_more : (r : ℕ) → t ≡ true → NextPart w part r → Fitting w a r (j + 1)
     fitting_more r e n = record {
       passed = passed_more (fits_at w a) (length a) j here.passed inside (sym test_is ∙ e);
-      part_is = n.follows j here.part-is;
+      part_is = n.follows j here.part_is;
       below = n.below;
     }
 

@@ -12,6 +12,7 @@ ghost use Rattle.io.specs.Counts.{IsPrefixLen};
 use replay::bytes::Text;
 use replay::tally::{Compared, Tally};
 use replay::{Place, bytes, tally};
+use std::os::fd::AsRawFd;
 
 // The entry that a file is of.
 const READ: u8 = 0;
@@ -85,18 +86,14 @@ fn cases(entry: u8, file: i32) -> Tally {
 }
 
 // Replays a file, and reports it by a name.
-fn replay_file(entry: u8, path: &[u8], name: &[u8]) {
-    let file = os::open_read(path);
-    if file < 0 {
-        os::fail(path);
-        return;
-    }
-    let t = cases(entry, file);
-    libc::close(file);
+fn replay_file(rt: &HostRuntime, entry: u8, path: &str, name: &[u8]) -> std::io::Result<()> {
+    let file = std::fs::open(rt, path)?;
+    let t = cases(entry, file.as_raw_fd());
     tally::report(name, t);
+    Ok(())
 }
 
-fn main() {
-    replay_file(READ, b"read.txt", b"read");
-    replay_file(WRITE, b"write.txt", b"write");
+fn main(rt: HostRuntime) -> std::io::Result<()> {
+    replay_file(&rt, READ, "read.txt", b"read")?;
+    replay_file(&rt, WRITE, "write.txt", b"write")
 }
