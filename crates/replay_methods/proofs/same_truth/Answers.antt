@@ -5,17 +5,13 @@ use mathlib.Core.Bool.{Bool, cond}
 use mathlib.Core.List.{List, [], ◌∷◌}
 use Rattle.replay.specs.Same.{same_numbers}
 use borrow.Author.Rules.{rules}
-use Rattle.replay_methods.proofs.same_truth.Statement.{statement}
-use Rattle.replay_methods.proofs.same_truth.Tie as tie
+use Rattle.replay_methods.proofs.same_truth.Goals as goal
 
 by_truth : (wanted : List ℕ) (holds b r : Bool) → holds ≡ b → r ≡ same_numbers wanted (cond b 1 0 ∷ []) → r ≡ same_numbers wanted (cond holds 1 0 ∷ [])
 by_truth wanted holds b r told e = rw told e
 
-pub same_truth_spec : {M : Type 1} → statement M
-same_truth_spec =
-    tie.close
-    (tie.spec
-    (λ c. search rules) (λ c κs. search rules)
-    (λ c. search (rules, by_truth))
-    (λ c. search rules) (λ c κs. search rules)
-    (λ c. search (rules, by_truth)))
+pub returns-then-holds : goal.returns-then-holds
+returns-then-holds c = search (rules, by_truth)
+
+pub returns : goal.returns
+returns c = search (rules, by_truth)
