@@ -1,6 +1,6 @@
 -- What the public functions of a record's crate leave, from what their parts give: laws over any kind of record. Assumes nothing.
 use Prim.Native.Nat.{ℕ, ◌+◌, ◌*◌}
-use mathlib.Core.Path.{◌≡◌, refl, sym, ap, ◌∙◌}
+use mathlib.Core.Path.{◌≡◌, refl, ap, ◌∙◌}
 use mathlib.Core.List.{List, ◌++◌}
 use native.Mathlib.Omega.{arith}
 use lib.ListN.{length, get_or, set}
@@ -23,7 +23,7 @@ use Rattle.calls.specs.declared.Call.{Call}
 use Rattle.calls.specs.declared.Call.TheVariants.{Record}
 use Rattle.calls.specs.Table.{line, line_of}
 use Rattle.floats.specs.Words.{first_floats, words_of}
-use Rattle.calls.specs.Called.{Kind, fitting, call_of, called_of, operated_of, binary_number, binary_of, answer_of, lent_record, leaves, joined_left, summed_of, multiplied_of}
+use Rattle.calls.specs.Called.{Kind, fitting, call_of, called_of, operated_of, binary_number, binary_of, answer_of, leaves, joined_left, summed_of, multiplied_of}
 use Rattle.calls.proofs.Lent.{lent, one_written, two_written}
 
 -- A call by number: the call that was found leaves it, of the three records that were read.

@@ -1,5 +1,5 @@
 -- The table of functions in oracle/README.md ("Functions"), and the fields of a case. Definitions only.
-use Rattle.std.specs.Prelude.{ℕ, ◌+◌, ◌-◌, ◌*◌, ◌/◌, ◌%◌, ◌^◌, Bool, cond, ◌&&◌, List, [], ◌∷◌, eqb, leb, ℤ, pos, negsuc, length, get_or}
+use Rattle.std.specs.Prelude.{ℕ, ◌+◌, ◌-◌, ◌*◌, ◌/◌, ◌%◌, ◌^◌, Bool, cond, ◌&&◌, List, [], ◌∷◌, eqb, leb, ℤ, pos, negsuc, get_or}
 use Rattle.refusals.specs.Largest as largest
 use Rattle.algebra.specs.Flat.{tabulate}
 use Rattle.replay.specs.Same.{same_numbers}

@@ -1,0 +1,13 @@
+-- The call of the number, of the three records that were read, leaves what it does (Entries).
+use borrow.Author.Rules.{rules}
+use Rattle.hyperdual.proofs.Flat.{hyper_dual_laws}
+use Rattle.hyperdual_calls.specs.Kind.{hyper_dual_kind}
+use Rattle.calls.proofs.Fitting.{call_sized}
+use Rattle.calls.proofs.Entries.{called}
+use Rattle.hyperdual_calls.proofs.call.Goals as goal
+
+pub run-requires : goal.run-requires
+run-requires c = search (rules, call_sized)
+
+pub returns : goal.returns
+returns c = search (rules, called hyper_dual_kind hyper_dual_laws)
