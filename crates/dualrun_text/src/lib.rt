@@ -67,8 +67,8 @@ enum Word {
 // What the runner writes for a text, put at the start of a lent buffer, as far as it fits: the number of bytes put there. The rest of the buffer stays
 // as it was. No text gives more than 65,536 bytes, and none gives another output than its first 65,536 bytes do.
 pub fn run(text: &[u8], out: &mut [u8]) -> usize
-    ensures result_after { page out.new result ≡ written (page out.old 0) (output_of text.now) }
-    ensures upper_bound { (result ≤ length out.new) × (result ≡ length (take result out.new)) }
+    ensures output { page out.new result ≡ written (page out.old 0) (output_of text.now) }
+    ensures counts { (result ≤ length out.new) × (result ≡ length (take result out.new)) }
 {
     match read::request(text) {
         Request::Lu { n, start } => lu::command(text, out, n, start),

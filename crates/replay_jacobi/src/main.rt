@@ -7,11 +7,11 @@ ghost use Rattle.std.specs.Prelude.{◌≡◌, ◌&&◌};
 ghost use Rattle.jacobi.specs.Answer.{outcome};
 ghost use Rattle.replay_jacobi.specs.Runs.{spoiled_at, spoiled_of, same_run};
 
-use std::fs::File;
-use std::os::fd::AsRawFd;
 use jacobi::JacobiAnswer;
 use replay::tally::{Compared, Tally};
 use replay::{Place, tally};
+use std::fs::File;
+use std::os::fd::AsRawFd;
 
 const NAN: u64 = 0x7ff8_0000_0000_0000;
 
