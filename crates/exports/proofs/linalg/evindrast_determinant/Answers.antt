@@ -1,0 +1,10 @@
+-- What the entry answered crosses, by the case of its answer: the parts of a record, or a number alone.
+use borrow.Author.Rules.{rules}
+use Rattle.exports.proofs.Crossed.{determinant_written, determinant_refused}
+use Rattle.exports.proofs.linalg.evindrast_determinant.Goals as goal
+
+pub returns-in-Value : goal.returns-in-Value
+returns-in-Value c = search (rules, determinant_written)
+
+pub returns-in-Refused : goal.returns-in-Refused
+returns-in-Refused c = search (rules, determinant_refused)

@@ -1,0 +1,30 @@
+-- Each arm of the match is a case of the definition's kinds: one law an arm, whatever the call leaves (KindArms).
+use borrow.Author.Rules.{rules}
+use Rattle.calls.specs.Called.{operated_of}
+use Rattle.exports.specs.ByKind.{record_left}
+use Rattle.exports.proofs.KindArms.{kind_dual, kind_dual2, kind_dual3, kind_hyperdual, kind_hyperhyperdual, kind_none}
+use Rattle.exports.proofs.operators.operator.Goals as goal
+
+pub returns-in-1 : goal.returns-in-1
+unfolding record_left operated_of
+returns-in-1 c = search (rules, kind_dual)
+
+pub returns-in-2 : goal.returns-in-2
+unfolding record_left operated_of
+returns-in-2 c = search (rules, kind_dual2)
+
+pub returns-in-3 : goal.returns-in-3
+unfolding record_left operated_of
+returns-in-3 c = search (rules, kind_dual3)
+
+pub returns-in-4 : goal.returns-in-4
+unfolding record_left operated_of
+returns-in-4 c = search (rules, kind_hyperdual)
+
+pub returns-in-5 : goal.returns-in-5
+unfolding record_left operated_of
+returns-in-5 c = search (rules, kind_hyperhyperdual)
+
+pub returns-in_default : goal.returns-in_default
+unfolding record_left operated_of
+returns-in_default c = search (rules, kind_none)
