@@ -100,10 +100,10 @@ fn run(
     vectors: &mut [f64],
 ) -> Ended
     requires square { Square 2 n a.now }
-    requires square_2 { (Square 2 n w.old) × (Square 2 n vectors.old) }
-    requires bw_len { (length bw.old ≡ n * 2) × (length zw.old ≡ n * 2) }
+    requires both_square { (Square 2 n w.old) × (Square 2 n vectors.old) }
+    requires sums_len { (length bw.old ≡ n * 2) × (length zw.old ≡ n * 2) }
     requires values_len { length values.old ≡ n * 2 }
-    requires n_nonzero { (0 < n) × (limit ≤ largest.limit) }
+    requires within { (0 < n) × (limit ≤ largest.limit) }
     ensures { eigen_of values.new vectors.new result ≡ jacobi_of dual_algebra n limit (dual_records a.now) }
 {
     prepare::prepare(n, a, w, bw, zw, values, vectors);
@@ -115,10 +115,10 @@ fn run(
 // The run with a scratch for small n.
 fn run_small(n: usize, a: &[f64], limit: usize, values: &mut [f64], vectors: &mut [f64]) -> Ended
     requires square { Square 2 n a.now }
-    requires square_2 { Square 2 n vectors.old }
+    requires vectors_square { Square 2 n vectors.old }
     requires values_len { length values.old ≡ n * 2 }
-    requires n_nonzero { (0 < n) × (n ≤ small_n) }
-    requires limit_le_limit { limit ≤ largest.limit }
+    requires size { (0 < n) × (n ≤ small_n) }
+    requires limit_allowed { limit ≤ largest.limit }
     ensures { eigen_of values.new vectors.new result ≡ jacobi_of dual_algebra n limit (dual_records a.now) }
 {
     let full = n * n * 2;
@@ -141,10 +141,10 @@ fn run_small(n: usize, a: &[f64], limit: usize, values: &mut [f64], vectors: &mu
 // The run with a scratch for every n.
 fn run_large(n: usize, a: &[f64], limit: usize, values: &mut [f64], vectors: &mut [f64]) -> Ended
     requires square { Square 2 n a.now }
-    requires square_2 { Square 2 n vectors.old }
+    requires vectors_square { Square 2 n vectors.old }
     requires values_len { length values.old ≡ n * 2 }
-    requires n_nonzero { (0 < n) × (n ≤ largest.n) }
-    requires limit_le_limit { limit ≤ largest.limit }
+    requires size { (0 < n) × (n ≤ largest.n) }
+    requires limit_allowed { limit ≤ largest.limit }
     ensures { eigen_of values.new vectors.new result ≡ jacobi_of dual_algebra n limit (dual_records a.now) }
 {
     let full = n * n * 2;

@@ -48,7 +48,7 @@ fn put_diagonal(n: usize, a: &[f64], d: &mut [f64])
 fn start_sums(n: usize, a: &[f64], d: &mut [f64], bw: &mut [f64], zw: &mut [f64])
     requires square { Square 2 n a.now }
     requires d_len { length d.old ≡ n * 2 }
-    requires bw_len { (length bw.old ≡ n * 2) × (length zw.old ≡ n * 2) }
+    requires sums_len { (length bw.old ≡ n * 2) × (length zw.old ≡ n * 2) }
     ensures d_after { dual_records d.new ≡ diagonal dual_algebra n (dual_records a.now) }
     ensures bw_after { dual_records bw.new ≡ diagonal dual_algebra n (dual_records a.now) }
     ensures zw_after { dual_records zw.new ≡ replicate n (zero_of dual_algebra) }
@@ -72,8 +72,8 @@ pub(crate) fn prepare(
     requires square { Square 2 n a.now }
     requires sized { Sized n w.old v.old d.old zw.old }
     requires bw_len { length bw.old ≡ n * 2 }
-    ensures sized_2 { Sized n w.new v.new d.new zw.new }
-    ensures bw_after { run_of w.new v.new d.new zw.new bw.new 0 0 ≡ start dual_algebra n (dual_records a.now) }
+    ensures still_sized { Sized n w.new v.new d.new zw.new }
+    ensures run_after { run_of w.new v.new d.new zw.new bw.new 0 0 ≡ start dual_algebra n (dual_records a.now) }
 {
     floats::copy(a, w);
     identity(n, v);

@@ -11,9 +11,9 @@ use rotations::cells::exchange;
 // The place of the smaller of two values, m where neither is.
 fn smaller(n: usize, d: &[f64], l: usize, m: usize) -> usize
     requires d_len { length d.now ≡ n * 2 }
-    requires l_lt_n { (l < n) × (m < n) }
+    requires places_in_range { (l < n) × (m < n) }
     ensures value { result ≡ rule.smaller dual_algebra n (dual_records d.now) l m }
-    ensures upper_bound { result < n }
+    ensures in_range { result < n }
 {
     let x = read(d, l);
     let y = read(d, m);
@@ -28,7 +28,7 @@ fn least(n: usize, d: &[f64], k: usize) -> usize
     requires d_len { length d.now ≡ n * 2 }
     requires k_lt_n { k < n }
     ensures value { result ≡ rule.least dual_algebra n (dual_records d.now) k }
-    ensures upper_bound { result < n }
+    ensures in_range { result < n }
 {
     let mut m = k;
     for l in k + 1..n {
@@ -40,8 +40,8 @@ fn least(n: usize, d: &[f64], k: usize) -> usize
 // Columns m and k exchanged.
 fn exchange_columns(n: usize, v: &mut [f64], m: usize, k: usize)
     requires square { Square 2 n v.old }
-    requires m_lt_n { (m < n) × (k < n) }
-    ensures square_2 { Square 2 n v.new }
+    requires columns_in_matrix { (m < n) × (k < n) }
+    ensures still_square { Square 2 n v.new }
     ensures v_after { dual_records v.new ≡ rule.exchange_columns dual_algebra n m k (dual_records v.old) }
 {
     for l in 0..n {
@@ -51,10 +51,10 @@ fn exchange_columns(n: usize, v: &mut [f64], m: usize, k: usize)
 
 // The least value from k on brought to k, with its column.
 fn select(n: usize, d: &mut [f64], v: &mut [f64], k: usize)
-    requires d_len { (length d.old ≡ n * 2) × Square 2 n v.old }
+    requires sized { (length d.old ≡ n * 2) × Square 2 n v.old }
     requires k_lt_n { k < n }
     ensures square { Square 2 n v.new }
-    ensures v_after { pairs_of d.new v.new ≡ rule.select dual_algebra n k (pairs_of d.old v.old) }
+    ensures pairs_after { pairs_of d.new v.new ≡ rule.select dual_algebra n k (pairs_of d.old v.old) }
 {
     let m = least(n, d, k);
     if m == k {
@@ -66,7 +66,7 @@ fn select(n: usize, d: &mut [f64], v: &mut [f64], k: usize)
 
 // Every value in its place.
 pub(crate) fn sort(n: usize, d: &mut [f64], v: &mut [f64])
-    requires d_len { (length d.old ≡ n * 2) × Square 2 n v.old }
+    requires sized { (length d.old ≡ n * 2) × Square 2 n v.old }
     requires n_nonzero { 0 < n }
     ensures { pairs_of d.new v.new ≡ rule.sort dual_algebra n (pairs_of d.old v.old) }
 {

@@ -63,11 +63,11 @@ fn row(
 ) -> usize
     requires sized { Sized n a.old v.old d.old zw.old }
     requires p_lt_n { p < n }
-    requires n_bound { rotations + largest.n < many_rotations }
-    ensures sized_2 { Sized n a.new v.new d.new zw.new }
-    ensures result_after { work_of a.new v.new d.new zw.new result
+    requires countable { rotations + largest.n < many_rotations }
+    ensures still_sized { Sized n a.new v.new d.new zw.new }
+    ensures work_after { work_of a.new v.new d.new zw.new result
         ≡ rule.row dual_algebra n thresh it_num p (work_of a.old v.old d.old zw.old rotations) }
-    ensures upper_bound { result ≤ rotations + largest.n }
+    ensures few { result ≤ rotations + largest.n }
 {
     let mut count = rotations;
     for q in p + 1..n {
@@ -88,11 +88,11 @@ fn sweep(
     rotations: usize,
 ) -> usize
     requires sized { Sized n a.old v.old d.old zw.old }
-    requires n_bound { rotations + largest.n * largest.n < many_rotations }
-    ensures sized_2 { Sized n a.new v.new d.new zw.new }
-    ensures result_after { work_of a.new v.new d.new zw.new result
+    requires countable { rotations + largest.n * largest.n < many_rotations }
+    ensures still_sized { Sized n a.new v.new d.new zw.new }
+    ensures work_after { work_of a.new v.new d.new zw.new result
         ≡ rule.sweep dual_algebra n thresh it_num (work_of a.old v.old d.old zw.old rotations) }
-    ensures upper_bound { result ≤ rotations + largest.n * largest.n }
+    ensures few { result ≤ rotations + largest.n * largest.n }
 {
     let mut count = rotations;
     for p in 0..n {
@@ -115,7 +115,7 @@ fn add_all(n: usize, zw: &[f64], bw: &mut [f64])
 
 // A sweep's end: bw += zw, d = bw, zw = 0.
 fn close_sweep(n: usize, d: &mut [f64], zw: &mut [f64], bw: &mut [f64])
-    requires zw_len { (length zw.old ≡ n * 2) × (length bw.old ≡ n * 2) }
+    requires sums_len { (length zw.old ≡ n * 2) × (length bw.old ≡ n * 2) }
     requires d_len { length d.old ≡ n * 2 }
     ensures bw_after { dual_records bw.new ≡ rule.add_all dual_algebra n (dual_records zw.old) (dual_records bw.old) }
     ensures d_after { dual_records d.new ≡ rule.add_all dual_algebra n (dual_records zw.old) (dual_records bw.old) }
@@ -139,11 +139,11 @@ fn step(
 ) -> AfterSweep
     requires sized { Sized n a.old v.old d.old zw.old }
     requires bw_len { length bw.old ≡ n * 2 }
-    requires n_bound { rotations + largest.n * largest.n < many_rotations }
-    ensures sized_2 { Sized n a.new v.new d.new zw.new }
-    ensures it_num_after { run_after result a.new v.new d.new zw.new bw.new rotations it_num
+    requires countable { rotations + largest.n * largest.n < many_rotations }
+    ensures still_sized { Sized n a.new v.new d.new zw.new }
+    ensures run_after { run_after result a.new v.new d.new zw.new bw.new rotations it_num
         ≡ rule.step dual_algebra n it_num (run_of a.old v.old d.old zw.old bw.old rotations it_num) }
-    ensures result_bound { rotations_of result ≤ rotations + largest.n * largest.n }
+    ensures few { rotations_of result ≤ rotations + largest.n * largest.n }
 {
     let thresh = threshold(n, a);
     if thresh == 0.0 {
@@ -166,9 +166,9 @@ pub(crate) fn sweeps(
 ) -> Ended
     requires sized { Sized n a.old v.old d.old zw.old }
     requires bw_len { length bw.old ≡ n * 2 }
-    requires limit_le_limit { limit ≤ largest.limit }
-    ensures sized_2 { Sized n a.new v.new d.new zw.new }
-    ensures result_after { eigen_of d.new v.new result
+    requires limit_allowed { limit ≤ largest.limit }
+    ensures still_sized { Sized n a.new v.new d.new zw.new }
+    ensures eigen_after { eigen_of d.new v.new result
         ≡ ended (upto 0 limit (rule.step dual_algebra n) (run_of a.old v.old d.old zw.old bw.old 0 0)) }
 {
     let mut rotations = 0;

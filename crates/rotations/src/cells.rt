@@ -10,7 +10,7 @@ use dual::{Dual, read, write};
 // The record at row r, column c.
 pub fn get(n: usize, a: &[f64], r: usize, c: usize) -> Dual
     requires square { Square 2 n a.now }
-    requires r_lt_n { (r < n) × (c < n) }
+    requires in_matrix { (r < n) × (c < n) }
     ensures { result ≡ cell dual_algebra n (dual_records a.now) r c }
 {
     read(a, r * n + c)
@@ -19,8 +19,8 @@ pub fn get(n: usize, a: &[f64], r: usize, c: usize) -> Dual
 // The record at row r, column c is x.
 pub fn put(n: usize, a: &mut [f64], r: usize, c: usize, x: Dual)
     requires square { Square 2 n a.old }
-    requires r_lt_n { (r < n) × (c < n) }
-    ensures square_2 { Square 2 n a.new }
+    requires in_matrix { (r < n) × (c < n) }
+    ensures still_square { Square 2 n a.new }
     ensures a_after { dual_records a.new ≡ store dual_algebra n (dual_records a.old) r c x }
 {
     write(a, r * n + c, x);

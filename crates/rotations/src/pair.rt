@@ -24,12 +24,12 @@ fn rotate(
     rotations: usize,
 ) -> usize
     requires sized { Sized n a.old v.old d.old zw.old }
-    requires p_lt_q { (p < q) × (q < n) }
-    requires rotations_lt_many_rotations { rotations < many_rotations }
-    ensures sized_2 { Sized n a.new v.new d.new zw.new }
-    ensures result_after { work_of a.new v.new d.new zw.new result
+    requires above_diagonal { (p < q) × (q < n) }
+    requires countable { rotations < many_rotations }
+    ensures still_sized { Sized n a.new v.new d.new zw.new }
+    ensures work_after { work_of a.new v.new d.new zw.new result
         ≡ rule.rotate dual_algebra n p q (angle s tau h) (work_of a.old v.old d.old zw.old rotations) }
-    ensures value { result ≡ rotations + 1 }
+    ensures one_more { result ≡ rotations + 1 }
 {
     turn::shift(zw, p, q, h);
     turn::shift(d, p, q, h);
@@ -52,12 +52,12 @@ pub fn pair(
     rotations: usize,
 ) -> usize
     requires sized { Sized n a.old v.old d.old zw.old }
-    requires p_lt_q { (p < q) × (q < n) }
-    requires rotations_lt_many_rotations { rotations < many_rotations }
-    ensures sized_2 { Sized n a.new v.new d.new zw.new }
-    ensures result_after { work_of a.new v.new d.new zw.new result
+    requires above_diagonal { (p < q) × (q < n) }
+    requires countable { rotations < many_rotations }
+    ensures still_sized { Sized n a.new v.new d.new zw.new }
+    ensures work_after { work_of a.new v.new d.new zw.new result
         ≡ rule.pair dual_algebra n thresh it_num p q (work_of a.old v.old d.old zw.old rotations) }
-    ensures upper_bound { result ≤ rotations + 1 }
+    ensures few { result ≤ rotations + 1 }
 {
     let x = get(n, a, p, q);
     let dp = read(d, p);

@@ -25,9 +25,9 @@ fn turned_second(s: Dual, tau: Dual, g: Dual, h: Dual) -> Dual
 // The entries at (r, c) and (u, w), turned.
 fn turn(n: usize, a: &mut [f64], s: Dual, tau: Dual, r: usize, c: usize, u: usize, w: usize)
     requires square { Square 2 n a.old }
-    requires r_lt_n { (r < n) × (c < n) }
-    requires u_lt_n { (u < n) × (w < n) }
-    ensures square_2 { Square 2 n a.new }
+    requires first_in_matrix { (r < n) × (c < n) }
+    requires second_in_matrix { (u < n) × (w < n) }
+    ensures still_square { Square 2 n a.new }
     ensures a_after { dual_records a.new ≡ rule.turn dual_algebra n s tau r c u w (dual_records a.old) }
 {
     let g = get(n, a, r, c);
@@ -47,9 +47,9 @@ pub(crate) fn turn_columns(
     rows: usize,
 )
     requires square { Square 2 n a.old }
-    requires p_lt_n { (p < n) × (q < n) }
-    requires rows_le_n { rows ≤ n }
-    ensures square_2 { Square 2 n a.new }
+    requires columns_in_matrix { (p < n) × (q < n) }
+    requires rows_in_matrix { rows ≤ n }
+    ensures still_square { Square 2 n a.new }
     ensures a_after { dual_records a.new ≡ turn_columns dual_algebra n s tau p q rows (dual_records a.old) }
 {
     for j in 0..rows {
@@ -60,8 +60,8 @@ pub(crate) fn turn_columns(
 // Row p and column q between them.
 fn turn_between(n: usize, a: &mut [f64], s: Dual, tau: Dual, p: usize, q: usize)
     requires square { Square 2 n a.old }
-    requires p_lt_q { (p < q) × (q < n) }
-    ensures square_2 { Square 2 n a.new }
+    requires above_diagonal { (p < q) × (q < n) }
+    ensures still_square { Square 2 n a.new }
     ensures a_after { dual_records a.new ≡ turn_between dual_algebra n s tau p q (dual_records a.old) }
 {
     for j in p + 1..q {
@@ -72,8 +72,8 @@ fn turn_between(n: usize, a: &mut [f64], s: Dual, tau: Dual, p: usize, q: usize)
 // Rows p and q beyond q.
 fn turn_rows(n: usize, a: &mut [f64], s: Dual, tau: Dual, p: usize, q: usize)
     requires square { Square 2 n a.old }
-    requires p_lt_q { (p < q) × (q < n) }
-    ensures square_2 { Square 2 n a.new }
+    requires above_diagonal { (p < q) × (q < n) }
+    ensures still_square { Square 2 n a.new }
     ensures a_after { dual_records a.new ≡ turn_rows dual_algebra n s tau p q (dual_records a.old) }
 {
     for j in q + 1..n {
@@ -84,8 +84,8 @@ fn turn_rows(n: usize, a: &mut [f64], s: Dual, tau: Dual, p: usize, q: usize)
 // The entry (p, q) set to zero, and the part above the diagonal turned.
 pub(crate) fn turn_above(n: usize, a: &mut [f64], s: Dual, tau: Dual, p: usize, q: usize)
     requires square { Square 2 n a.old }
-    requires p_lt_q { (p < q) × (q < n) }
-    ensures square_2 { Square 2 n a.new }
+    requires above_diagonal { (p < q) × (q < n) }
+    ensures still_square { Square 2 n a.new }
     ensures a_after { dual_records a.new ≡ turn_above dual_algebra n s tau p q (dual_records a.old) }
 {
     put(n, a, p, q, Dual::ZERO);

@@ -14,14 +14,14 @@ returns-then-number-ne0 c = search (rules, jacobi_refused dual_algebra dual_layo
 pub run_small-e-requires : goal.run_small-e-requires
 run_small-e-requires c =
     let p = jacobi_allowed _ _ _ c.args.values.now _ _ c.refusal-number.ensures c.if-number-ne0.false small_n c.if-n-le-SMALL_N.true in
-    record { square = p.0; square_2 = p.1.0; values_len = p.1.1.0; n_nonzero = p.1.1.1.0; limit_le_limit = p.1.1.1.1 }
+    record { square = p.0; vectors_square = p.1.0; values_len = p.1.1.0; size = p.1.1.1.0; limit_allowed = p.1.1.1.1 }
 
 -- and else is at most the largest
 pub run_large-e-requires : goal.run_large-e-requires
 run_large-e-requires c =
     let s = c.args in
     let p = jacobi_allowed _ _ _ s.values.now _ _ c.refusal-number.ensures c.if-number-ne0.false largest.n (jacobi_small s.n s.a.now s.limit s.values.now s.vectors.now _ c.refusal-number.ensures c.if-number-ne0.false) in
-    record { square = p.0; square_2 = p.1.0; values_len = p.1.1.0; n_nonzero = p.1.1.1.0; limit_le_limit = p.1.1.1.1 }
+    record { square = p.0; vectors_square = p.1.0; values_len = p.1.1.0; size = p.1.1.1.0; limit_allowed = p.1.1.1.1 }
 
 pub returns-then-n-le-SMALL_N : goal.returns-then-n-le-SMALL_N
 returns-then-n-le-SMALL_N c = search (rules, jacobi_answers)

@@ -5,4 +5,4 @@ use Rattle.jacobi.proofs.run.Goals as goal
 
 -- the three calls, each from what the one before left
 pub returns : goal.returns
-returns c = run_by dual_algebra _ _ _ _ _ _ _ _ _ _ _ c.prepare.ensures.bw_after c.sweeps-e.ensures.result_after c.sort.ensures
+returns c = run_by dual_algebra _ _ _ _ _ _ _ _ _ _ _ c.prepare.ensures.run_after c.sweeps-e.ensures.eigen_after c.sort.ensures

@@ -20,5 +20,5 @@ slice_bounds-run-end-3 c = search (rules, row_scratch small_n)
 pub run-requires : goal.run-requires
 run-requires c =
     let p = c.requires in
-    let suits = scratch_suits small_n _ p.n_nonzero.1 p.square.small in
-    record { square = p.square; square_2 = (suits.0, p.square_2); bw_len = (suits.1, suits.1); values_len = p.values_len; n_nonzero = (p.n_nonzero.0, p.limit_le_limit) }
+    let suits = scratch_suits small_n _ p.size.1 p.square.small in
+    record { square = p.square; both_square = (suits.0, p.vectors_square); sums_len = (suits.1, suits.1); values_len = p.values_len; within = (p.size.0, p.limit_allowed) }

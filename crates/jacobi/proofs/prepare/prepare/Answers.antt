@@ -5,8 +5,8 @@ use Rattle.rotations.proofs.Kept.{sized_kept}
 use Rattle.jacobi.proofs.Started.{start_by}
 use Rattle.jacobi.proofs.prepare.prepare.Goals as goal
 
-pub returns-clause-sized_2 : goal.returns-clause-sized_2
-returns-clause-sized_2 c = search (rules, sized_kept)
+pub returns-clause-still_sized : goal.returns-clause-still_sized
+returns-clause-still_sized c = search (rules, sized_kept)
 
-pub returns-clause-bw_after : goal.returns-clause-bw_after
-returns-clause-bw_after c = search (rules, start_by dual_laws)
+pub returns-clause-run_after : goal.returns-clause-run_after
+returns-clause-run_after c = search (rules, start_by dual_laws)

@@ -5,11 +5,11 @@ use Rattle.rotations.proofs.Kept.{sized_kept}
 use Rattle.jacobi.proofs.Swept.{step_stops, step_sweeps}
 use Rattle.jacobi.proofs.sweeps.step.Goals as goal
 
-pub returns-then-thresh-clause-it_num_after : goal.returns-then-thresh-clause-it_num_after
-returns-then-thresh-clause-it_num_after c = search (rules, step_stops dual_algebra)
+pub returns-then-thresh-clause-run_after : goal.returns-then-thresh-clause-run_after
+returns-then-thresh-clause-run_after c = search (rules, step_stops dual_algebra)
 
-pub returns-clause-sized_2 : goal.returns-clause-sized_2
-returns-clause-sized_2 c = search (rules, sized_kept)
+pub returns-clause-still_sized : goal.returns-clause-still_sized
+returns-clause-still_sized c = search (rules, sized_kept)
 
-pub returns-clause-it_num_after : goal.returns-clause-it_num_after
-returns-clause-it_num_after c = search (rules, step_sweeps dual_algebra)
+pub returns-clause-run_after : goal.returns-clause-run_after
+returns-clause-run_after c = search (rules, step_sweeps dual_algebra)

@@ -12,8 +12,8 @@ loop-p-init c = record { from = search rules; within = search rules; few = searc
 pub loop-p-preserved : goal.loop-p-preserved
 loop-p-preserved c = search (rules, work_turn)
 
-pub returns-clause-result_after : goal.returns-clause-result_after
-returns-clause-result_after c = search (rules, work_end)
+pub returns-clause-work_after : goal.returns-clause-work_after
+returns-clause-work_after c = search (rules, work_end)
 
-pub returns-clause-upper_bound : goal.returns-clause-upper_bound
-returns-clause-upper_bound c = search (rules, work_few)
+pub returns-clause-few : goal.returns-clause-few
+returns-clause-few c = search (rules, work_few)

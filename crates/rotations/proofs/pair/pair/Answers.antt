@@ -6,16 +6,16 @@ use Rattle.rotations.proofs.pair.pair.Goals as goal
 
 -- what the caller showed
 pub rotate-requires : goal.rotate-requires
-rotate-requires c = record { sized = c.requires.sized; p_lt_q = c.requires.p_lt_q; rotations_lt_many_rotations = c.requires.rotations_lt_many_rotations }
+rotate-requires c = record { sized = c.requires.sized; above_diagonal = c.requires.above_diagonal; countable = c.requires.countable }
 
 -- kept: all is as it was
-pub returns-in-Keep-clause-result_after : goal.returns-in-Keep-clause-result_after
-returns-in-Keep-clause-result_after c = pair_keep dual_algebra _ _ _ _ _ _ _ _ _ _ _ _ _ _ (record { entry = search rules; first = search rules; second = search rules }) c.choose-choice.ensures c.in-Keep.is
+pub returns-in-Keep-clause-work_after : goal.returns-in-Keep-clause-work_after
+returns-in-Keep-clause-work_after c = pair_keep dual_algebra _ _ _ _ _ _ _ _ _ _ _ _ _ _ (record { entry = search rules; first = search rules; second = search rules }) c.choose-choice.ensures c.in-Keep.is
 
 -- cleared: the entry alone is zero
-pub returns-in-Clear-clause-result_after : goal.returns-in-Clear-clause-result_after
-returns-in-Clear-clause-result_after c = pair_clear dual_algebra _ _ _ _ _ _ _ _ _ _ _ _ _ _ (record { entry = search rules; first = search rules; second = search rules }) c.choose-choice.ensures _ c.in-Clear.is (search rules)
+pub returns-in-Clear-clause-work_after : goal.returns-in-Clear-clause-work_after
+returns-in-Clear-clause-work_after c = pair_clear dual_algebra _ _ _ _ _ _ _ _ _ _ _ _ _ _ (record { entry = search rules; first = search rules; second = search rules }) c.choose-choice.ensures _ c.in-Clear.is (search rules)
 
 -- rotated: by the angle of the three entries
-pub returns-in-Rotate-clause-result_after : goal.returns-in-Rotate-clause-result_after
-returns-in-Rotate-clause-result_after c = pair_rotate dual_algebra _ _ _ _ _ _ _ _ _ _ _ _ _ _ (record { entry = search rules; first = search rules; second = search rules }) c.choose-choice.ensures _ _ c.in-Rotate.is c.angle-t.ensures (search rules)
+pub returns-in-Rotate-clause-work_after : goal.returns-in-Rotate-clause-work_after
+returns-in-Rotate-clause-work_after c = pair_rotate dual_algebra _ _ _ _ _ _ _ _ _ _ _ _ _ _ (record { entry = search rules; first = search rules; second = search rules }) c.choose-choice.ensures _ _ c.in-Rotate.is c.angle-t.ensures (search rules)

@@ -5,8 +5,8 @@ use Rattle.rotations.proofs.Kept.{sized_kept}
 use Rattle.rotations.proofs.Turned.{rotate_by}
 use Rattle.rotations.proofs.pair.rotate.Goals as goal
 
-pub returns-clause-sized_2 : goal.returns-clause-sized_2
-returns-clause-sized_2 c = search (rules, sized_kept)
+pub returns-clause-still_sized : goal.returns-clause-still_sized
+returns-clause-still_sized c = search (rules, sized_kept)
 
-pub returns-clause-result_after : goal.returns-clause-result_after
-returns-clause-result_after c = search (rules, rotate_by dual_algebra)
+pub returns-clause-work_after : goal.returns-clause-work_after
+returns-clause-work_after c = search (rules, rotate_by dual_algebra)

@@ -4,9 +4,9 @@ use borrow.Author.Rules.{rules}
 use Rattle.rotations.proofs.turn.turn.Goals as goal
 
 -- the two entries written, from what was read
-pub returns-clause-square_2 : goal.returns-clause-square_2
+pub returns-clause-still_square : goal.returns-clause-still_square
 unfolding turn
-returns-clause-square_2 c = search rules
+returns-clause-still_square c = search rules
 
 -- the two entries written, from what was read
 pub returns-clause-a_after : goal.returns-clause-a_after
