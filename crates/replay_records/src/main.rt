@@ -71,8 +71,8 @@ fn case_in_buffers(
     words: &[u64],
     told: bool,
 ) -> bool
-    requires records_len_bound { length records.now ≤ most_words }
-    requires words_nonzero { (0 < length words.now) × (length words.now ≤ most_answer) }
+    requires records_fit { length records.now ≤ most_words }
+    requires words_fit { (0 < length words.now) × (length words.now ≤ most_answer) }
     ensures { result ≡ same_recorded kind function exponent records.now floats.now wanted words.now (length records.now) (take (length words.now) (replicate most_answer float.zero)) (take (length words.now) (replicate most_answer 0)) }
 {
     let n = records.len();
