@@ -13,10 +13,6 @@ as_lent n l h = sym (length-take-le n l h)
 pub as_long : {A B : Type 0} (n : ℕ) (l : List A) (m : List B) → n ≤ length l → n ≤ length m → length (take n l) ≡ length (take n m)
 as_long n l m h k = length-take-le n l h ∙ sym (length-take-le n m k)
 
--- at most as long as that is
-pub at_most : {A : Type 0} (n most : ℕ) (l : List A) → n ≤ length l → n ≤ most → length (take n l) ≤ most
-at_most n most l h k = rw (length-take-le n l h) k
-
 -- and not empty where that is not 0
 pub positive : {A : Type 0} (n : ℕ) (l : List A) → 0 < n → n ≤ length l → 0 < length (take n l)
 positive n l h k = rw (length-take-le n l k) h

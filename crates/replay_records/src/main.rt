@@ -14,6 +14,7 @@ ghost use Rattle.replay_records.specs.Kinds.{same_recorded};
 use kinds::Kind;
 use replay::tally::{Compared, Tally};
 use replay::{Place, tally};
+use std::os::fd::AsRawFd;
 
 // A case, with its function.
 #[derive(Clone, Copy)]
@@ -70,8 +71,8 @@ fn case_in_buffers(
     words: &[u64],
     told: bool,
 ) -> bool
-    requires records_len_bound { length records.now ≤ most_words }
-    requires words_nonzero { (0 < length words.now) × (length words.now ≤ most_answer) }
+    requires records_fit { length records.now ≤ most_words }
+    requires words_fit { (0 < length words.now) × (length words.now ≤ most_answer) }
     ensures { result ≡ same_recorded kind function exponent records.now floats.now wanted words.now (length records.now) (take (length words.now) (replicate most_answer float.zero)) (take (length words.now) (replicate most_answer 0)) }
 {
     let n = records.len();
@@ -167,34 +168,37 @@ fn cases(kind: Kind, file: i32) -> Tally {
 }
 
 // Replays a file, and reports it by a name.
-fn replay_file(kind: Kind, path: &[u8], name: &[u8]) {
-    let file = os::open_read(path);
-    if file < 0 {
-        os::fail(path);
-        return;
-    }
-    let t = cases(kind, file);
-    libc::close(file);
+fn replay_file(rt: &HostRuntime, kind: Kind, path: &str, name: &[u8]) -> std::io::Result<()> {
+    let file = std::fs::open(rt, path)?;
+    let t = cases(kind, file.as_raw_fd());
     tally::report(name, t);
+    Ok(())
 }
 
-fn main() {
-    replay_file(Kind::Dual, b"records-dual.txt", b"dual");
-    replay_file(Kind::Dual, b"runs-dual.txt", b"dual runs");
-    replay_file(Kind::Dual2, b"records-dual2.txt", b"dual2");
-    replay_file(Kind::Dual2, b"runs-dual2.txt", b"dual2 runs");
-    replay_file(Kind::Dual3, b"records-dual3.txt", b"dual3");
-    replay_file(Kind::Dual3, b"runs-dual3.txt", b"dual3 runs");
-    replay_file(Kind::HyperDual, b"records-hyperdual.txt", b"hyperdual");
-    replay_file(Kind::HyperDual, b"runs-hyperdual.txt", b"hyperdual runs");
+fn main(rt: HostRuntime) -> std::io::Result<()> {
+    replay_file(&rt, Kind::Dual, "records-dual.txt", b"dual")?;
+    replay_file(&rt, Kind::Dual, "runs-dual.txt", b"dual runs")?;
+    replay_file(&rt, Kind::Dual2, "records-dual2.txt", b"dual2")?;
+    replay_file(&rt, Kind::Dual2, "runs-dual2.txt", b"dual2 runs")?;
+    replay_file(&rt, Kind::Dual3, "records-dual3.txt", b"dual3")?;
+    replay_file(&rt, Kind::Dual3, "runs-dual3.txt", b"dual3 runs")?;
+    replay_file(&rt, Kind::HyperDual, "records-hyperdual.txt", b"hyperdual")?;
     replay_file(
+        &rt,
+        Kind::HyperDual,
+        "runs-hyperdual.txt",
+        b"hyperdual runs",
+    )?;
+    replay_file(
+        &rt,
         Kind::HyperHyperDual,
-        b"records-hyperhyperdual.txt",
+        "records-hyperhyperdual.txt",
         b"hyperhyperdual",
-    );
+    )?;
     replay_file(
+        &rt,
         Kind::HyperHyperDual,
-        b"runs-hyperhyperdual.txt",
+        "runs-hyperhyperdual.txt",
         b"hyperhyperdual runs",
-    );
+    )
 }

@@ -164,8 +164,8 @@ pub fn read_case(
     floats: &mut [u64],
     answer: &mut [u64],
 ) -> Case
-    requires parts_nonzero { (0 < parts) × (parts ≤ largest.width) }
-    requires words_len { (length words.old ≡ most_words) × ((length floats.old ≡ 2) × (length answer.old ≡ most_answer)) }
+    requires parts_fit { (0 < parts) × (parts ≤ largest.width) }
+    requires buffers { (length words.old ≡ most_words) × ((length floats.old ≡ 2) × (length answer.old ≡ most_answer)) }
     ensures { (result.records ≤ most_words) × ((result.floats ≤ 2) × ((0 < result.answer) × (result.answer ≤ most_answer))) }
 {
     let head = read_head(file, buffer, place);
