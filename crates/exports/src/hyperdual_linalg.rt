@@ -8,8 +8,7 @@ use super::linalg::lu_number;
 use hyperdual::HyperDualAnswer;
 
 // The factors of a and the order of its rows. `swaps_or_column` is written at 0, with the swap count, and at 6, with the column in which no pivot exceeds zero.
-#[unsafe(no_mangle)]
-pub extern "C" fn evindrast_hyperdual_lu(
+pub fn evindrast_hyperdual_lu(
     n: usize,
     a: &[f64],
     factors: &mut [f64],
@@ -23,8 +22,7 @@ pub extern "C" fn evindrast_hyperdual_lu(
 }
 
 // x with a * x = b, from the factors and the order of a.
-#[unsafe(no_mangle)]
-pub extern "C" fn evindrast_hyperdual_solve(
+pub fn evindrast_hyperdual_solve(
     n: usize,
     factors: &[f64],
     order: &[usize],
@@ -38,8 +36,7 @@ pub extern "C" fn evindrast_hyperdual_solve(
 }
 
 // The determinant, from the factors, the order and the swap count, in its four parts.
-#[unsafe(no_mangle)]
-pub extern "C" fn evindrast_hyperdual_determinant(
+pub fn evindrast_hyperdual_determinant(
     n: usize,
     factors: &[f64],
     order: &[usize],
@@ -65,8 +62,7 @@ pub extern "C" fn evindrast_hyperdual_determinant(
 }
 
 // The inverse, from the factors and the order.
-#[unsafe(no_mangle)]
-pub extern "C" fn evindrast_hyperdual_inverse(
+pub fn evindrast_hyperdual_inverse(
     n: usize,
     factors: &[f64],
     order: &[usize],

@@ -28,8 +28,7 @@ pub(crate) fn lu_number(answer: LuAnswer, swaps_or_column: &mut usize) -> u32
 }
 
 // The factors of a and the order of its rows. `swaps_or_column` is written at 0, with the swap count, and at 6, with the column in which no pivot exceeds zero.
-#[unsafe(no_mangle)]
-pub extern "C" fn evindrast_lu(
+pub fn evindrast_lu(
     n: usize,
     a: &[f64],
     factors: &mut [f64],
@@ -43,14 +42,7 @@ pub extern "C" fn evindrast_lu(
 }
 
 // x with a * x = b, from the factors and the order of a.
-#[unsafe(no_mangle)]
-pub extern "C" fn evindrast_solve(
-    n: usize,
-    factors: &[f64],
-    order: &[usize],
-    b: &[f64],
-    x: &mut [f64],
-) -> u32
+pub fn evindrast_solve(n: usize, factors: &[f64], order: &[usize], b: &[f64], x: &mut [f64]) -> u32
     ensures { (result, x.new) ≡ solve_numbered (solve_left dual_algebra dual_layout n factors.now order.now b.now x.old) }
 {
     let answer = dual_lu::solve(n, factors, order, b, x);
@@ -58,8 +50,7 @@ pub extern "C" fn evindrast_solve(
 }
 
 // The determinant, from the factors, the order and the swap count, in re and eps.
-#[unsafe(no_mangle)]
-pub extern "C" fn evindrast_determinant(
+pub fn evindrast_determinant(
     n: usize,
     factors: &[f64],
     order: &[usize],
@@ -81,13 +72,7 @@ pub extern "C" fn evindrast_determinant(
 }
 
 // The inverse, from the factors and the order.
-#[unsafe(no_mangle)]
-pub extern "C" fn evindrast_inverse(
-    n: usize,
-    factors: &[f64],
-    order: &[usize],
-    out: &mut [f64],
-) -> u32
+pub fn evindrast_inverse(n: usize, factors: &[f64], order: &[usize], out: &mut [f64]) -> u32
     ensures { (result, out.new) ≡ solve_numbered (inverse_left dual_algebra dual_layout n factors.now order.now out.old) }
 {
     let answer = dual_lu::inverse(n, factors, order, out);
@@ -95,8 +80,7 @@ pub extern "C" fn evindrast_inverse(
 }
 
 // Eigenvalues and eigenvectors (a column each), with the number of sweeps that did not stop at the threshold, at most `limit`.
-#[unsafe(no_mangle)]
-pub extern "C" fn evindrast_jacobi_eigenvalue(
+pub fn evindrast_jacobi_eigenvalue(
     n: usize,
     a: &[f64],
     limit: usize,

@@ -22,8 +22,7 @@ pub(crate) fn market_number(answer: MarketAnswer, count: &mut usize) -> u32
 }
 
 // The size of the matrix in a text.
-#[unsafe(no_mangle)]
-pub extern "C" fn evindrast_market_size(text: &[u8], n: &mut usize) -> u32
+pub fn evindrast_market_size(text: &[u8], n: &mut usize) -> u32
     ensures { (result, n.new) ≡ size_numbered n.old (size_of text.now) }
 {
     let answer = market_reader::size(text);
@@ -31,8 +30,7 @@ pub extern "C" fn evindrast_market_size(text: &[u8], n: &mut usize) -> u32
 }
 
 // The matrix in a text, row by row, and its size.
-#[unsafe(no_mangle)]
-pub extern "C" fn evindrast_market_read(text: &[u8], out: &mut [f64], n: &mut usize) -> u32
+pub fn evindrast_market_read(text: &[u8], out: &mut [f64], n: &mut usize) -> u32
     ensures { (result, (n.new, out.new)) ≡ left_numbered n.old (read_left 2 text.now out.old) }
 {
     let answer = market_reader::read(text, out);
@@ -40,13 +38,7 @@ pub extern "C" fn evindrast_market_read(text: &[u8], out: &mut [f64], n: &mut us
 }
 
 // The text of a matrix, zeros after it, and its length.
-#[unsafe(no_mangle)]
-pub extern "C" fn evindrast_market_write(
-    n: usize,
-    a: &[f64],
-    text: &mut [u8],
-    length: &mut usize,
-) -> u32
+pub fn evindrast_market_write(n: usize, a: &[f64], text: &mut [u8], length: &mut usize) -> u32
     ensures { (result, (length.new, text.new)) ≡ left_numbered length.old (write_left 2 n a.now text.old) }
 {
     let answer = market_writer::write(n, a, text);
@@ -54,20 +46,14 @@ pub extern "C" fn evindrast_market_write(
 }
 
 // The same two of matrices of `HyperDual`: four floats a record.
-#[unsafe(no_mangle)]
-pub extern "C" fn evindrast_hyperdual_market_read(
-    text: &[u8],
-    out: &mut [f64],
-    n: &mut usize,
-) -> u32
+pub fn evindrast_hyperdual_market_read(text: &[u8], out: &mut [f64], n: &mut usize) -> u32
     ensures { (result, (n.new, out.new)) ≡ left_numbered n.old (read_left 4 text.now out.old) }
 {
     let answer = market_reader::read_hyperdual(text, out);
     market_number(answer, n)
 }
 
-#[unsafe(no_mangle)]
-pub extern "C" fn evindrast_hyperdual_market_write(
+pub fn evindrast_hyperdual_market_write(
     n: usize,
     a: &[f64],
     text: &mut [u8],

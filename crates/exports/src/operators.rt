@@ -21,32 +21,28 @@ fn operator(kind: u32, op: Binary, records: &[u64], out: &mut [u64]) -> u32
 }
 
 // The sum of two records: function 09.
-#[unsafe(no_mangle)]
-pub extern "C" fn evindrast_add(kind: u32, records: &[u64], out: &mut [u64]) -> u32
+pub fn evindrast_add(kind: u32, records: &[u64], out: &mut [u64]) -> u32
     ensures { (result, out.new) ≡ record_left kind (binary_number Add) (pos 0) records.now [] out.old }
 {
     operator(kind, Binary::Add, records, out)
 }
 
 // The difference of two records: function 0a.
-#[unsafe(no_mangle)]
-pub extern "C" fn evindrast_sub(kind: u32, records: &[u64], out: &mut [u64]) -> u32
+pub fn evindrast_sub(kind: u32, records: &[u64], out: &mut [u64]) -> u32
     ensures { (result, out.new) ≡ record_left kind (binary_number Sub) (pos 0) records.now [] out.old }
 {
     operator(kind, Binary::Sub, records, out)
 }
 
 // The product of two records: function 0b.
-#[unsafe(no_mangle)]
-pub extern "C" fn evindrast_mul(kind: u32, records: &[u64], out: &mut [u64]) -> u32
+pub fn evindrast_mul(kind: u32, records: &[u64], out: &mut [u64]) -> u32
     ensures { (result, out.new) ≡ record_left kind (binary_number Mul) (pos 0) records.now [] out.old }
 {
     operator(kind, Binary::Mul, records, out)
 }
 
 // The quotient of two records: function 0c.
-#[unsafe(no_mangle)]
-pub extern "C" fn evindrast_div(kind: u32, records: &[u64], out: &mut [u64]) -> u32
+pub fn evindrast_div(kind: u32, records: &[u64], out: &mut [u64]) -> u32
     ensures { (result, out.new) ≡ record_left kind (binary_number Div) (pos 0) records.now [] out.old }
 {
     operator(kind, Binary::Div, records, out)

@@ -5,8 +5,7 @@ ghost use Rattle.exports.specs.ByKind.{record_left, sum_left, product_left};
 // A function by its number in oracle/README.md ("Functions"), over words. `records` holds the records that it takes, self first, `floats` its plain and outside floats in the
 // table's order, `out` as many words as it gives: those of one record, of two for sin_cos, of one float for a truth (1.0 or 0.0). powi alone reads `exponent`. Another kind, function
 // or length is refused 2, then powi's exponent 5.
-#[unsafe(no_mangle)]
-pub extern "C" fn evindrast_record(
+pub fn evindrast_record(
     kind: u32,
     function: u32,
     exponent: i32,
@@ -27,8 +26,7 @@ pub extern "C" fn evindrast_record(
 }
 
 // The sum of the records of a run, from zero, left to right; `out` is one record. Another kind, or a length of no whole records, is refused 2.
-#[unsafe(no_mangle)]
-pub extern "C" fn evindrast_sum(kind: u32, run: &[f64], out: &mut [f64]) -> u32
+pub fn evindrast_sum(kind: u32, run: &[f64], out: &mut [f64]) -> u32
     ensures { (result, out.new) ≡ sum_left kind run.now out.old }
 {
     match kind {
@@ -42,8 +40,7 @@ pub extern "C" fn evindrast_sum(kind: u32, run: &[f64], out: &mut [f64]) -> u32
 }
 
 // The product of the records of a run, from one, left to right; else as the sum.
-#[unsafe(no_mangle)]
-pub extern "C" fn evindrast_product(kind: u32, run: &[f64], out: &mut [f64]) -> u32
+pub fn evindrast_product(kind: u32, run: &[f64], out: &mut [f64]) -> u32
     ensures { (result, out.new) ≡ product_left kind run.now out.old }
 {
     match kind {

@@ -1,0 +1,36 @@
+// The operations, requests, sums and products of the five record types. A kind is a number: 1 `Dual`, 2 `Dual2`, 3 `Dual3`, 4 `HyperDual`, 5 `HyperHyperDual`.
+ghost use Rattle.std.specs.Prelude.{◌≡◌};
+ghost use Rattle.exports.specs.ByKind.{record_left, sum_left, product_left};
+
+// A function by its number in oracle/README.md ("Functions"), over words. `records` holds the records that it takes, self first, `floats` its plain and outside floats in the
+// table's order, `out` as many words as it gives: those of one record, of two for sin_cos, of one float for a truth (1.0 or 0.0). powi alone reads `exponent`. Another kind, function
+// or length is refused 2, then powi's exponent 5.
+#[unsafe(no_mangle)]
+pub extern "C" fn evindrast_record(
+    kind: u32,
+    function: u32,
+    exponent: i32,
+    records: &[u64],
+    floats: &[u64],
+    out: &mut [u64],
+) -> u32
+    ensures { (result, out.new) ≡ record_left kind function exponent records.now floats.now out.old }
+{
+    exports::record::evindrast_record(kind, function, exponent, records, floats, out)
+}
+
+// The sum of the records of a run, from zero, left to right; `out` is one record. Another kind, or a length of no whole records, is refused 2.
+#[unsafe(no_mangle)]
+pub extern "C" fn evindrast_sum(kind: u32, run: &[f64], out: &mut [f64]) -> u32
+    ensures { (result, out.new) ≡ sum_left kind run.now out.old }
+{
+    exports::record::evindrast_sum(kind, run, out)
+}
+
+// The product of the records of a run, from one, left to right; else as the sum.
+#[unsafe(no_mangle)]
+pub extern "C" fn evindrast_product(kind: u32, run: &[f64], out: &mut [f64]) -> u32
+    ensures { (result, out.new) ≡ product_left kind run.now out.old }
+{
+    exports::record::evindrast_product(kind, run, out)
+}

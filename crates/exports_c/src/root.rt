@@ -1,0 +1,21 @@
+// The square root.
+ghost use Rattle.std.specs.Prelude.{◌≡◌};
+ghost use Rattle.std.specs.Float.{binary64};
+ghost use Rattle.std.specs.Float.Ieee.{of_bits, to_bits};
+ghost use Rattle.real.specs.Root.{sqrt_of};
+
+// The square root of a float.
+#[unsafe(no_mangle)]
+pub extern "C" fn evindrast_sqrt(x: f64) -> f64
+    ensures { result ≡ sqrt_of x }
+{
+    exports::root::evindrast_sqrt(x)
+}
+
+// The square root by words: a NaN leaves as 7ff8000000000000.
+#[unsafe(no_mangle)]
+pub extern "C" fn evindrast_sqrt_word(w: u64) -> u64
+    ensures { result ≡ to_bits binary64 (sqrt_of (of_bits binary64 w)) }
+{
+    exports::root::evindrast_sqrt_word(w)
+}
