@@ -23,13 +23,12 @@ number() { case $2 in '' | *[!0-9]*) wrong "$1 is a number, not '$2'" ;; esac; }
 # No more arguments than the command takes: most COUNT ARGUMENTS..
 most() { [ $(($# - 1)) -le "$1" ] || { shift "$(($1 + 1))" && wrong "'$1' is one argument too many"; }; }
 
-# Sets kit, the folder of the Rattle toolchain, as `rt` itself finds it, and machine, what it runs on.
+# Sets kit, the folder of the Rattle toolchain, which has the page that `rt doc` names.
 find_kit() {
     need rt "it is the command of the Rattle toolchain"
     kit=$(rt doc) || exit 1
-    kit=$(cd "${kit%/docs/*}" && pwd -P)
-    machine=$(uname -m)
-    export RATTLE_HOME=$kit
+    kit=$(cd "${kit%/*}" && pwd -P)
+    "$kit/bin/rattle" --help > /dev/null 2>&1 || fail "the Rattle toolchain does not run here: it is for x86-64 Linux"
 }
 
 # Crates and all that they stand on, a line each: reached NAME..
@@ -48,8 +47,8 @@ reached() {
     ' "$root/crates.txt"
 }
 
-# One word for all that decides what is built from a crate: its sources and those below it, the toolchain, the
-# machine and these scripts. stamp_of NAME
+# One word for all that decides what is built from a crate: its sources and those below it, the toolchain and these
+# scripts. stamp_of NAME
 stamp_of() (
     cd "$root"
     {
@@ -57,24 +56,29 @@ stamp_of() (
         for crate in $(reached "$1"); do
             find "crates/$crate"/{src,specs,proofs} -type f -print0 2> /dev/null || true # some have no proofs
         done
-    } | LC_ALL=C sort -z | xargs -0 sha256sum | sha256sum | sed "s/ .*/ $machine/"
+    } | LC_ALL=C sort -z | xargs -0 sha256sum | sha256sum | sed 's/ .*//'
 )
 
-# Has rt do something, with a line for each crate that it proves. All that it says goes to target/log/LOG:
-# proving LOG WORDS..
+# Has rt make a file in a crate's out/, with a line for each crate that it proves. All that it says goes to
+# target/log/LOG: proving LOG CRATE FILE WORDS..
 proving() {
-    local log=$root/target/log/$1 line status
-    shift
+    local log=$root/target/log/$1 crate=$2 made=$root/crates/$2/out/$3 line
+    shift 3
     mkdir -p "$root/target/log"
+    rm -f "$made"
     : > "$log"
-    set +e
-    (cd "$root" && exec rt "$@") < /dev/null 2>&1 | while IFS= read -r line; do
-        printf '%s\n' "$line" >> "$log"
-        case $line in 'rt: '*' proved ('[0-9]*' s)' | 'rt: '*' NOT PROVED'*) printf '  %s\n' "${line#rt: }" >&2 ;; esac
-    done
-    status=${PIPESTATUS[0]}
-    set -e
-    [ "$status" -eq 0 ] && return
+    (cd "$root/crates/$crate" && exec rt "$@") < /dev/null 2>&1 | {
+        # rt names a crate as it begins with it, and tells a proof by its last line.
+        local name=$crate began=$SECONDS
+        while IFS= read -r line; do
+            printf '%s\n' "$line" >> "$log"
+            case $line in
+            'rt: chose --jobs '*' for '*) name=${line##* } began=$SECONDS ;;
+            'logic=proved '*) printf '  %s proved (%s s)\n' "$name" $((SECONDS - began)) >&2 ;;
+            esac
+        done
+    } || true # the file tells: a program that rt also runs has a status of its own
+    if [ -f "$made" ]; then return; fi
     tail -n 12 "$log" | cut -c 1-300 >&2
     fail "rt $1 failed (${log#"$root/"} has all that it said)"
 }
