@@ -10,7 +10,7 @@ use lib.Seq.{get_or-set_same, get_or-set_other}
 use lib.Ieee.{Float}
 use Rattle.real.specs.Operations as float
 use Rattle.algebra.specs.Algebra.{Algebra, RealParts, reals, zero_of}
-use Rattle.algebra.specs.Flat.{Layout, Lawful, Agrees, real_parts, record_at, record_count, decode}
+use Rattle.algebra.specs.Flat.{Layout, Lawful, Agrees, record_at, record_count, decode}
 use Rattle.algebra.proofs.Flat.{decode_length, decode_size, decode_at, decode_is, decode_reals, record_same}
 use Rattle.algebra.proofs.Loop.{upto_reach}
 use Rattle.matrices.specs.Matrix.{Square, exchange, exchange_rows}

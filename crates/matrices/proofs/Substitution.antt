@@ -6,7 +6,6 @@ use lib.ListN.{length, get_or, set}
 use lib.Ieee.{Float}
 use Rattle.algebra.specs.Algebra.{Algebra, zero_of}
 use Rattle.algebra.specs.Flat.{Layout, decode}
-use Rattle.algebra.specs.Loop.{upto}
 use Rattle.algebra.proofs.Loop.{upto_turn, upto_end}
 use Rattle.algebra.proofs.Cells.{held}
 use Rattle.algebra.proofs.Laws.{Laws}

@@ -10,7 +10,7 @@ use Rattle.real.proofs.is_negative.Reads as is_negative
 use Rattle.real.proofs.abs.Kinds as abs-k
 use Rattle.real.proofs.abs.Reads as abs
 use Rattle.real.proofs.float_of_word.Kinds as float-of-word-k
-use Rattle.real.proofs.float_of_word.Reads as Float-of_Word
+use Rattle.real.proofs.float_of_word.Reads as float_of_word
 use Rattle.real.proofs.word_of_float.Kinds as word-of-float-k
 use Rattle.real.proofs.word_of_float.Reads as word-of-float
 
@@ -26,7 +26,7 @@ is_negative_only κs a x y v w h p q = (p ∙ sym q, refl)
 pub abs_only : Only 0 abs-k.ps abs-k.r abs.Pre abs.Post
 abs_only κs a x y v w h p q = (p ∙ sym q, refl)
 
-pub float_of_word_only : Only 0 float-of-word-k.ps float-of-word-k.r Float-of_Word.Pre Float-of_Word.Post
+pub float_of_word_only : Only 0 float-of-word-k.ps float-of-word-k.r float_of_word.Pre float_of_word.Post
 float_of_word_only κs a x y v w h p q = (p ∙ sym q, refl)
 
 pub word_of_float_only : Only 0 word-of-float-k.ps word-of-float-k.r word-of-float.Pre word-of-float.Post

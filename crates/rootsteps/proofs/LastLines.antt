@@ -1,6 +1,6 @@
 -- What the last two lines say is true, for every text that is read: the steps keep what the root's square leaves, down to the last bit. Assumes nothing.
 use Prim.Native.Nat.{ℕ, ◌+◌, ◌-◌, ◌*◌, ◌/◌, ◌%◌, ◌^◌, ◌≤◌, ◌<◌}
-use mathlib.Core.Path.{◌≡◌, refl, sym, ap, ◌∙◌, subst}
+use mathlib.Core.Path.{◌≡◌, refl, sym, ap, ◌∙◌}
 use mathlib.Core.Bool.{Bool, true, false, cond}
 use mathlib.Core.List.{List}
 use native.Mathlib.Nat.{mul_assoc, mul-pos}
@@ -11,7 +11,7 @@ use borrow.Author.Tests.{ltb-true, ltb-false}
 use Rattle.real.proofs.Rounded.{stays, moves}
 use Rattle.rootsteps.specs.declared.Request.TheVariants.{Steps}
 use Rattle.rootsteps.specs.Request.{request_of}
-use Rattle.rootsteps.specs.Start.{top_of, shift_of, odd_of, significand_of, exponent_of, start_of, found_of}
+use Rattle.rootsteps.specs.Start.{top_of, shift_of, odd_of, significand_of, exponent_of, found_of}
 use Rattle.rootsteps.specs.Table.{nearest_of}
 use Rattle.rootsteps.proofs.Asking.{askable}
 use Rattle.rootsteps.proofs.Scaling.{scales}

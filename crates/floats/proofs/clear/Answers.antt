@@ -1,10 +1,9 @@
 -- The loop keeps: below i there are zeros. Assumes nothing.
-use mathlib.Core.Path.{◌≡◌, refl, sym, ◌∙◌}
-use Prim.Native.Nat.{◌-◌}
+use mathlib.Core.Path.{refl, sym, ◌∙◌}
 use lib.ListN.{length, replicate, length-set, length-replicate, get_or-replicate}
 use lib.Ieee.{nan}
 use native.Mathlib.Omega.{arith}
-use Rattle.floats.proofs.Fill.{Filled, filled_more, filled_all}
+use Rattle.floats.proofs.Fill.{filled_more, filled_all}
 use Rattle.real.specs.Operations.{zero}
 use Rattle.floats.proofs.clear.Goals as goal
 

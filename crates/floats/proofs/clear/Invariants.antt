@@ -1,10 +1,9 @@
 -- The loop keeps: below i there are zeros. Assumes nothing.
-use mathlib.Core.Path.{◌≡◌, refl, sym, ◌∙◌}
+use mathlib.Core.Path.{◌≡◌}
 use Prim.Native.Nat.{◌-◌}
-use lib.ListN.{length, replicate, length-set, length-replicate, get_or-replicate}
+use lib.ListN.{length}
 use lib.Ieee.{nan}
-use native.Mathlib.Omega.{arith}
-use Rattle.floats.proofs.Fill.{Filled, filled_more, filled_all}
+use Rattle.floats.proofs.Fill.{Filled}
 use Rattle.real.specs.Operations.{zero}
 use Rattle.floats.proofs.clear.Given as goal
 

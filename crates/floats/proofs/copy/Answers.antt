@@ -1,10 +1,9 @@
 -- The loop keeps: below i there is what `from` has. Assumes nothing.
-use mathlib.Core.Path.{◌≡◌, refl}
-use Prim.Native.Nat.{◌-◌}
-use lib.ListN.{length, get_or, length-set}
+use mathlib.Core.Path.{refl}
+use lib.ListN.{get_or, length-set}
 use lib.Ieee.{nan}
 use native.Mathlib.Omega.{arith}
-use Rattle.floats.proofs.Fill.{Filled, filled_more, filled_all}
+use Rattle.floats.proofs.Fill.{filled_more, filled_all}
 use Rattle.floats.proofs.copy.Goals as goal
 
 -- nothing is below 0

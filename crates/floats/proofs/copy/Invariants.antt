@@ -1,10 +1,9 @@
 -- The loop keeps: below i there is what `from` has. Assumes nothing.
-use mathlib.Core.Path.{◌≡◌, refl}
+use mathlib.Core.Path.{◌≡◌}
 use Prim.Native.Nat.{◌-◌}
-use lib.ListN.{length, get_or, length-set}
+use lib.ListN.{length, get_or}
 use lib.Ieee.{nan}
-use native.Mathlib.Omega.{arith}
-use Rattle.floats.proofs.Fill.{Filled, filled_more, filled_all}
+use Rattle.floats.proofs.Fill.{Filled}
 use Rattle.floats.proofs.copy.Given as goal
 
 abbrev pub invariant-loop-i : goal.invariant-loop-i

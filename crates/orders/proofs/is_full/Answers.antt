@@ -4,7 +4,6 @@ use mathlib.Core.Path.{ap}
 use lib.Dec.{eqb}
 use lib.Pow.{pow_pos}
 use native.Mathlib.Omega.{arith}
-use borrow.Author.Rules.{rules}
 use Rattle.orders.proofs.Walk.{one_shifted}
 use Rattle.orders.proofs.is_full.Goals as goal
 

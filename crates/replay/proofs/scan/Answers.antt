@@ -2,7 +2,6 @@
 use mathlib.Core.Path.{sym}
 use borrow.Author.Tests.{lt-ltb, le-ltb}
 use Rattle.replay.specs.Reading.{seen_after}
-use borrow.Author.Rules.{rules}
 use Rattle.replay.proofs.scan.Goals as goal
 
 -- in a comment: it goes on unless the byte is a newline

@@ -1,5 +1,4 @@
 -- The word of the root is that of `word_of_float`.
-use borrow.Author.Rules.{rules}
 use Rattle.replay_root.proofs.same_root.Goals as goal
 
 -- what `word_of_float` tells is the definition

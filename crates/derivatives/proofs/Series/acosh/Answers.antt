@@ -1,5 +1,4 @@
 -- The body is the series' own operations in its order, the root as `real::sqrt` promises it.
-use borrow.Author.Rules.{rules}
 use Rattle.derivatives.specs.Series.{acosh_series}
 use Rattle.derivatives.proofs.Series.acosh.Goals as goal
 

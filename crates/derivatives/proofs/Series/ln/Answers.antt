@@ -1,5 +1,4 @@
 -- What the five logarithms share is promised by `logarithm`.
-use borrow.Author.Rules.{rules}
 use Rattle.derivatives.specs.Series.{ln_series}
 use Rattle.derivatives.proofs.Series.ln.Goals as goal
 

@@ -1,5 +1,4 @@
 -- What the five logarithms share is promised by `logarithm`.
-use borrow.Author.Rules.{rules}
 use Rattle.derivatives.specs.Series.{ln1p_series}
 use Rattle.derivatives.proofs.Series.ln_1p.Goals as goal
 

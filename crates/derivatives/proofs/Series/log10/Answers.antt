@@ -1,5 +1,4 @@
 -- What the five logarithms share is promised by `logarithm`.
-use borrow.Author.Rules.{rules}
 use Rattle.derivatives.specs.Series.{log10_series}
 use Rattle.derivatives.proofs.Series.log10.Goals as goal
 

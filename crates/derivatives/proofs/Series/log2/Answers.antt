@@ -1,5 +1,4 @@
 -- What the five logarithms share is promised by `logarithm`.
-use borrow.Author.Rules.{rules}
 use Rattle.derivatives.specs.Series.{log2_series}
 use Rattle.derivatives.proofs.Series.log2.Goals as goal
 

@@ -1,5 +1,4 @@
 -- What the calls promise, put together, is the definition.
-use borrow.Author.Rules.{rules}
 use Rattle.dual.proofs.Dual.recip.Goals as goal
 
 pub returns : goal.returns

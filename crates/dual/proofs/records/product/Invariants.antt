@@ -1,11 +1,8 @@
 -- The loop keeps: what is left to multiply gives the whole product (Joins, over any record).
-use borrow.Author.Rules.{rules}
-use native.Mathlib.Omega.{arith}
 use Prim.Native.Nat.{◌-◌}
 use Rattle.algebra.specs.Algebra.{one_of}
-use Rattle.algebra.proofs.Joins.{Joining, joining_starts, joining_turn, product_refused, product_ends}
+use Rattle.algebra.proofs.Joins.{Joining}
 use Rattle.dual.specs.Rules.{dual_mul, dual_algebra, dual_layout}
-use Rattle.dual.proofs.Flat.{dual_laws}
 use Rattle.dual.proofs.records.product.Given as goal
 
 abbrev pub invariant-loop-p : goal.invariant-loop-p

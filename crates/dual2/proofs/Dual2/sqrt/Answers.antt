@@ -1,5 +1,4 @@
 -- What the calls promise, put together, is the definition.
-use borrow.Author.Rules.{rules}
 use Rattle.dual2.proofs.Dual2.sqrt.Goals as goal
 
 pub returns : goal.returns

@@ -1,10 +1,6 @@
 -- The loop keeps: what is left to add gives the whole sum (Joins, over any record).
 use borrow.Author.Rules.{rules}
-use native.Mathlib.Omega.{arith}
-use Prim.Native.Nat.{◌-◌}
-use Rattle.algebra.specs.Algebra.{zero_of}
-use Rattle.algebra.proofs.Joins.{Joining, joining_starts, joining_turn, sum_refused, sum_ends}
-use Rattle.dual2.specs.Rules.{dual2_add, dual2_algebra, dual2_layout}
+use Rattle.algebra.proofs.Joins.{joining_starts, joining_turn, sum_refused, sum_ends}
 use Rattle.dual2.proofs.Flat.{dual2_laws}
 use Rattle.dual2.proofs.records.sum.Goals as goal
 

@@ -1,5 +1,4 @@
 -- What the calls promise, put together, is the definition.
-use borrow.Author.Rules.{rules}
 use Rattle.dual3.proofs.Dual3.sqrt.Goals as goal
 
 pub returns : goal.returns

@@ -1,10 +1,6 @@
 -- The loop keeps: what is left to multiply gives the whole product (Joins, over any record).
 use borrow.Author.Rules.{rules}
-use native.Mathlib.Omega.{arith}
-use Prim.Native.Nat.{◌-◌}
-use Rattle.algebra.specs.Algebra.{one_of}
-use Rattle.algebra.proofs.Joins.{Joining, joining_starts, joining_turn, product_refused, product_ends}
-use Rattle.dual3.specs.Rules.{dual3_mul, dual3_algebra, dual3_layout}
+use Rattle.algebra.proofs.Joins.{joining_starts, joining_turn, product_refused, product_ends}
 use Rattle.dual3.proofs.Flat.{dual3_laws}
 use Rattle.dual3.proofs.records.product.Goals as goal
 

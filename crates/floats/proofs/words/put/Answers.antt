@@ -1,8 +1,8 @@
 -- The loop keeps: the words passed are those of the parts; at its end all are.
-use Prim.Native.Nat.{ℕ, ◌-◌, ◌<◌, ◌≤◌}
+use Prim.Native.Nat.{ℕ, ◌≤◌}
 use mathlib.Core.Path.{◌≡◌, ◌∙◌}
 use mathlib.Core.List.{List}
-use lib.ListN.{length, get_or, length-map, get_or-map}
+use lib.ListN.{length, length-map, get_or-map}
 use lib.Ieee.{Float, binary64, nan, to_bits}
 use native.Mathlib.Omega.{arith}
 use borrow.Author.Rules.{rules}

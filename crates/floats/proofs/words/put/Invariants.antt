@@ -1,14 +1,9 @@
 -- The loop keeps: the words passed are those of the parts; at its end all are.
-use Prim.Native.Nat.{ℕ, ◌-◌, ◌<◌, ◌≤◌}
-use mathlib.Core.Path.{◌≡◌, ◌∙◌}
+use Prim.Native.Nat.{ℕ, ◌-◌}
 use mathlib.Core.List.{List}
-use lib.ListN.{length, get_or, length-map, get_or-map}
+use lib.ListN.{length, get_or}
 use lib.Ieee.{Float, binary64, nan, to_bits}
-use native.Mathlib.Omega.{arith}
-use borrow.Author.Rules.{rules}
-use Rattle.algebra.proofs.Inside.{get_or-inside}
-use Rattle.floats.specs.Words.{words_of}
-use Rattle.floats.proofs.Fill.{Filling, filling_none, filling_more, filling_list}
+use Rattle.floats.proofs.Fill.{Filling}
 use Rattle.floats.proofs.words.put.Given as goal
 
 -- the word of part number k

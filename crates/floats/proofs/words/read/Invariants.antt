@@ -1,12 +1,10 @@
 -- The loop keeps: the floats passed are those of the words; at its end all are.
-use Prim.Native.Nat.{ℕ, ◌-◌}
-use mathlib.Core.List.{List}
+use Prim.Native.Nat.{◌-◌}
 use lib.ListN.{length, get_or}
-use lib.Ieee.{Float, nan}
-use borrow.Author.Rules.{rules}
+use lib.Ieee.{nan}
 use Rattle.real.specs.Operations as float
-use Rattle.floats.specs.Words.{floats_of, first_floats}
-use Rattle.floats.proofs.Fill.{Filling, filling_none, filling_more, filling_all}
+use Rattle.floats.specs.Words.{floats_of}
+use Rattle.floats.proofs.Fill.{Filling}
 use Rattle.floats.proofs.words.read.Given as goal
 
 abbrev pub invariant-loop-i : goal.invariant-loop-i

@@ -1,10 +1,6 @@
 -- The loop keeps: what is left to add gives the whole sum (Joins, over any record).
 use borrow.Author.Rules.{rules}
-use native.Mathlib.Omega.{arith}
-use Prim.Native.Nat.{◌-◌}
-use Rattle.algebra.specs.Algebra.{zero_of}
-use Rattle.algebra.proofs.Joins.{Joining, joining_starts, joining_turn, sum_refused, sum_ends}
-use Rattle.hyperdual.specs.Rules.{hyper_dual_add, hyper_dual_algebra, hyper_dual_layout}
+use Rattle.algebra.proofs.Joins.{joining_starts, joining_turn, sum_refused, sum_ends}
 use Rattle.hyperdual.proofs.Flat.{hyper_dual_laws}
 use Rattle.hyperdual.proofs.records.sum.Goals as goal
 

@@ -1,5 +1,4 @@
 -- What the calls promise, put together, is the definition.
-use borrow.Author.Rules.{rules}
 use Rattle.hyperhyperdual.proofs.HyperHyperDual.small_j0.Goals as goal
 
 pub returns : goal.returns

@@ -1,9 +1,9 @@
 -- The loop keeps: every entry passed holds 0.
-use mathlib.Core.Path.{◌≡◌, refl, sym, ◌∙◌}
-use Prim.Native.Nat.{ℕ, ◌-◌}
+use mathlib.Core.Path.{refl, sym, ◌∙◌}
+use Prim.Native.Nat.{ℕ}
 use lib.ListN.{length, replicate, length-set, length-replicate, get_or-replicate}
 use native.Mathlib.Omega.{arith}
-use Rattle.floats.proofs.Fill.{Filled, filled_more, filled_all}
+use Rattle.floats.proofs.Fill.{filled_more, filled_all}
 use Rattle.matrices.proofs.order.clear.Goals as goal
 
 -- nothing is filled at first

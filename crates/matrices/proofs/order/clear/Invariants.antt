@@ -1,9 +1,8 @@
 -- The loop keeps: every entry passed holds 0.
-use mathlib.Core.Path.{◌≡◌, refl, sym, ◌∙◌}
-use Prim.Native.Nat.{ℕ, ◌-◌}
-use lib.ListN.{length, replicate, length-set, length-replicate, get_or-replicate}
-use native.Mathlib.Omega.{arith}
-use Rattle.floats.proofs.Fill.{Filled, filled_more, filled_all}
+use mathlib.Core.Path.{◌≡◌}
+use Prim.Native.Nat.{◌-◌}
+use lib.ListN.{length}
+use Rattle.floats.proofs.Fill.{Filled}
 use Rattle.matrices.proofs.order.clear.Given as goal
 
 abbrev pub invariant-loop-i : goal.invariant-loop-i

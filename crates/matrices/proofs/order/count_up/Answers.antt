@@ -1,9 +1,8 @@
 -- The loop keeps: every entry passed holds its own place.
-use mathlib.Core.Path.{◌≡◌, refl, sym, ◌∙◌}
-use Prim.Native.Nat.{◌-◌}
+use mathlib.Core.Path.{refl, sym, ◌∙◌}
 use lib.ListN.{length, length-set}
 use native.Mathlib.Omega.{arith}
-use Rattle.floats.proofs.Fill.{Filled, filled_more, filled_all}
+use Rattle.floats.proofs.Fill.{filled_more, filled_all}
 use Rattle.algebra.proofs.Flat.{tabulate_length, tabulate_at}
 use Rattle.matrices.specs.Lu.{count_up}
 use Rattle.matrices.proofs.order.count_up.Goals as goal

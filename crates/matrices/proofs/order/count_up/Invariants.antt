@@ -1,11 +1,8 @@
 -- The loop keeps: every entry passed holds its own place.
-use mathlib.Core.Path.{◌≡◌, refl, sym, ◌∙◌}
+use mathlib.Core.Path.{◌≡◌}
 use Prim.Native.Nat.{◌-◌}
-use lib.ListN.{length, length-set}
-use native.Mathlib.Omega.{arith}
-use Rattle.floats.proofs.Fill.{Filled, filled_more, filled_all}
-use Rattle.algebra.proofs.Flat.{tabulate_length, tabulate_at}
-use Rattle.matrices.specs.Lu.{count_up}
+use lib.ListN.{length}
+use Rattle.floats.proofs.Fill.{Filled}
 use Rattle.matrices.proofs.order.count_up.Given as goal
 
 abbrev pub invariant-loop-i : goal.invariant-loop-i

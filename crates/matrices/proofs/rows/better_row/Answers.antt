@@ -3,7 +3,6 @@ use mathlib.Core.Path.{◌≡◌, refl}
 use Prim.Native.Nat.{ℕ}
 use mathlib.Core.Bool.{Bool, cond}
 use lib.Ieee.{Float, lt}
-use borrow.Author.Rules.{rules}
 use Rattle.real.specs.Sign.{abs_of}
 use Rattle.matrices.specs.Lu.{better}
 use Rattle.matrices.specs.declared.Pivot.{Pivot}

@@ -1,15 +1,10 @@
 -- The loop keeps: what is left to run gives the whole exchange.
-use mathlib.Core.Path.{◌≡◌, refl}
-use Prim.Native.Nat.{ℕ, ◌≤◌, ◌-◌, ◌+◌, ◌*◌, ◌<◌}
-use lib.ListN.{length, get_or, set, length-set}
-use lib.Ieee.{Float, nan}
-use mathlib.Core.List.{List}
-use native.Mathlib.Omega.{arith}
+use mathlib.Core.Path.{◌≡◌}
+use Prim.Native.Nat.{◌≤◌, ◌-◌, ◌+◌, ◌*◌}
+use lib.ListN.{length}
 use Rattle.real.specs.Operations.{zero}
 use Rattle.algebra.specs.Loop.{upto}
-use Rattle.algebra.proofs.Loop.{upto_turn, upto_end}
 use Rattle.matrices.specs.Matrix.{exchange, exchange_rows}
-use Rattle.algebra.proofs.Inside.{get_or-inside}
 use Rattle.matrices.proofs.rows.exchange_rows.Given as goal
 
 abbrev pub invariant-loop-c : goal.invariant-loop-c

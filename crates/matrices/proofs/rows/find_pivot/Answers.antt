@@ -1,9 +1,8 @@
 -- The loop keeps: the rows left to look at, from the best so far, give the pivot (PivotSought).
 use borrow.Author.Rules.{rules}
-use Prim.Native.Nat.{◌-◌}
 use native.Mathlib.Omega.{arith}
 use Rattle.matrices.proofs.Places.{column_places}
-use Rattle.matrices.proofs.PivotSought.{Seeking, seeking, seek_inside, seek_turn, seek_end}
+use Rattle.matrices.proofs.PivotSought.{seeking, seek_inside, seek_turn, seek_end}
 use Rattle.matrices.proofs.rows.find_pivot.Goals as goal
 
 -- places in a matrix are not large

@@ -1,7 +1,5 @@
 -- The loop keeps: as many bytes are read as are counted, within the lent ones.
-use Prim.Native.Nat.{◌≤◌, ◌-◌}
-use mathlib.Core.Path.{◌≡◌}
-use lib.ListN.{length, length-set}
+use lib.ListN.{length-set}
 use native.Mathlib.Omega.{arith}
 use Rattle.texts.proofs.Page.{counts}
 use borrow.Author.Rules.{rules}

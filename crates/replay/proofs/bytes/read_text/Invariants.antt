@@ -1,10 +1,7 @@
 -- The loop keeps: as many bytes are read as are counted, within the lent ones.
 use Prim.Native.Nat.{◌≤◌, ◌-◌}
 use mathlib.Core.Path.{◌≡◌}
-use lib.ListN.{length, length-set}
-use native.Mathlib.Omega.{arith}
-use Rattle.texts.proofs.Page.{counts}
-use borrow.Author.Rules.{rules}
+use lib.ListN.{length}
 use Rattle.replay.proofs.bytes.read_text.Given as goal
 
 abbrev pub invariant-loop-i : goal.invariant-loop-i

@@ -3,7 +3,6 @@ use Prim.Native.Nat.{◌-◌}
 use mathlib.Core.Path.{◌≡◌}
 use native.Mathlib.Omega.{arith}
 use Rattle.replay.specs.Tally.{after_of}
-use borrow.Author.Rules.{rules}
 use Rattle.replay.proofs.tally.after.Goals as goal
 
 -- whole, and some are left

@@ -1,5 +1,4 @@
 -- The loop ends: its turns are counted down.
-use borrow.Author.Rules.{rules}
 use Rattle.replay.proofs.tally.at_end.Given as goal
 
 abbrev pub invariant-loop-turns : goal.invariant-loop-turns

@@ -1,6 +1,5 @@
 -- By whether it was read whole.
 use Rattle.replay.specs.Tally.{begun_of}
-use borrow.Author.Rules.{rules}
 use Rattle.replay.proofs.tally.begun.Goals as goal
 
 -- whole: the cases are to come

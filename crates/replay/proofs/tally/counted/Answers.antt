@@ -1,6 +1,5 @@
 -- Both counts go up by one, the second where the case differs.
 use Rattle.replay.specs.Tally.{counted_of}
-use borrow.Author.Rules.{rules}
 use Rattle.replay.proofs.tally.counted.Goals as goal
 
 -- the same: only the first count grows

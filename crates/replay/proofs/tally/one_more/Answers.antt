@@ -1,7 +1,6 @@
 -- Below the greatest number one is added.
 use borrow.Author.Tests.{lt-ltb, le-ltb}
 use Rattle.replay.specs.Tally.{one_more}
-use borrow.Author.Rules.{rules}
 use Rattle.replay.proofs.tally.one_more.Goals as goal
 
 -- below the greatest number

@@ -1,9 +1,6 @@
 -- The loop stays within what is lent, and ends: a store changes no length.
-use Prim.Native.Nat.{◌≤◌, ◌-◌}
-use mathlib.Core.Path.{◌≡◌}
-use lib.ListN.{length, length-set}
+use lib.ListN.{length-set}
 use native.Mathlib.Omega.{arith}
-use borrow.Author.Rules.{rules}
 use Rattle.replay_outcomes.proofs.filling.floats.Goals as goal
 
 pub loop-i-smaller : goal.loop-i-smaller

@@ -1,9 +1,7 @@
 -- The loop stays within what is lent, and ends: a store changes no length.
 use Prim.Native.Nat.{◌≤◌, ◌-◌}
 use mathlib.Core.Path.{◌≡◌}
-use lib.ListN.{length, length-set}
-use native.Mathlib.Omega.{arith}
-use borrow.Author.Rules.{rules}
+use lib.ListN.{length}
 use Rattle.replay_outcomes.proofs.filling.floats.Given as goal
 
 abbrev pub invariant-loop-i : goal.invariant-loop-i

@@ -1,9 +1,6 @@
 -- The loop keeps: what has been joined, with the rest, stays the same (Joining).
 use borrow.Author.Rules.{rules}
-use Prim.Native.Nat.{◌-◌}
-use lib.ListN.{length}
-use lib.Ieee.{binary64, nan, to_bits}
-use Rattle.replay_outcomes.proofs.Join.{Joining, joining_none, joining_more, joining_all}
+use Rattle.replay_outcomes.proofs.Join.{joining_none, joining_more, joining_all}
 use Rattle.replay_outcomes.proofs.filling.join_floats.Goals as goal
 
 pub loop-i-init : goal.loop-i-init

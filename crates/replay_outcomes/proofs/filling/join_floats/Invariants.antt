@@ -1,9 +1,8 @@
 -- The loop keeps: what has been joined, with the rest, stays the same (Joining).
-use borrow.Author.Rules.{rules}
 use Prim.Native.Nat.{◌-◌}
 use lib.ListN.{length}
 use lib.Ieee.{binary64, nan, to_bits}
-use Rattle.replay_outcomes.proofs.Join.{Joining, joining_none, joining_more, joining_all}
+use Rattle.replay_outcomes.proofs.Join.{Joining}
 use Rattle.replay_outcomes.proofs.filling.join_floats.Given as goal
 
 abbrev pub invariant-loop-i : goal.invariant-loop-i

@@ -1,8 +1,7 @@
 -- The loop keeps: what has been joined, with the rest, stays the same (Joining).
-use borrow.Author.Rules.{rules}
 use Prim.Native.Nat.{ℕ, ◌-◌}
 use lib.ListN.{length}
-use Rattle.replay_outcomes.proofs.Join.{Joining, joining_none, joining_more, joining_all}
+use Rattle.replay_outcomes.proofs.Join.{Joining}
 use Rattle.replay_outcomes.proofs.filling.join_words.Given as goal
 
 abbrev pub invariant-loop-i : goal.invariant-loop-i

@@ -1,5 +1,4 @@
 -- The leading zeros leave the number's digits; what is shifted does not reach the word's end. Assumes nothing.
-use borrow.Author.Rules.{rules}
 use native.Mathlib.Omega.{arith}
 use Rattle.rootsteps.proofs.Scaling.{zeros_few, shift_there, scaled_is, exponent_is}
 use Rattle.rootsteps.proofs.start.scale.Goals as goal

@@ -1,5 +1,4 @@
 -- Four parts, one after the other. Assumes nothing.
-use borrow.Author.Rules.{rules}
 use Rattle.rootsteps.proofs.Lines.{leading_parts}
 use Rattle.rootsteps.proofs.table.leading_row.Goals as goal
 

@@ -1,6 +1,4 @@
 -- The nearest by its test, then three parts, one after the other. Assumes nothing.
-use borrow.Author.Rules.{rules}
-use mathlib.Core.Logic.{⊎_elim}
 use Rattle.rootsteps.proofs.Lines.{nearest_parts, nearest_more, nearest_same}
 use Rattle.rootsteps.proofs.table.nearest_line.Goals as goal
 use Rattle.rootsteps.proofs.table.nearest_line.Goals.{then-root-left, else-root-left}

@@ -1,5 +1,4 @@
 -- Five parts, one after the other; the last two cells are of what was found after the bit. Assumes nothing.
-use borrow.Author.Rules.{rules}
 use Rattle.rootsteps.proofs.Lines.{row_parts}
 use Rattle.rootsteps.proofs.table.row.Goals as goal
 

@@ -1,14 +1,12 @@
 -- The loop keeps: what is written so far and the rows of the bits to come are all the rows (Stepping). Assumes nothing.
 use borrow.Author.Rules.{rules}
-use Prim.Native.Nat.{◌-◌, ◌*◌, ◌/◌}
+use Prim.Native.Nat.{◌/◌}
 use mathlib.Core.Path.{ap}
 use native.Mathlib.Omega.{arith}
 use Rattle.real.specs.declared.root.Found.{Found}
 use Rattle.real.proofs.BitByBit.{next_less}
-use Rattle.texts.specs.Page.{page}
-use Rattle.rootsteps.specs.Start.{top_of, start_of}
 use Rattle.rootsteps.proofs.Scaling.{top_is, top_small}
-use Rattle.rootsteps.proofs.Rows.{Stepping, stepping_none, stepping_within, stepping_length, stepping_more, stepping_all, stepping_last}
+use Rattle.rootsteps.proofs.Rows.{stepping_none, stepping_within, stepping_length, stepping_more, stepping_all, stepping_last}
 use Rattle.rootsteps.proofs.table.rows.Goals as goal
 
 -- twice the leading bit, and what it leaves of the significand

@@ -1,5 +1,4 @@
 -- The start, then four parts, one after the other. Assumes nothing.
-use borrow.Author.Rules.{rules}
 use native.Mathlib.Omega.{arith}
 use Rattle.rootsteps.proofs.Scaling.{top_is, scales_by}
 use Rattle.rootsteps.proofs.Steps.{last_small}

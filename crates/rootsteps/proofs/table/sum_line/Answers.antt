@@ -1,5 +1,4 @@
 -- Six parts, one after the other. Assumes nothing.
-use borrow.Author.Rules.{rules}
 use Rattle.rootsteps.proofs.Lines.{sum_parts}
 use Rattle.rootsteps.proofs.table.sum_line.Goals as goal
 

@@ -1,7 +1,6 @@
 -- The loop keeps: k digits are read, which spell the value, and the run is those and what is left (Scanned).
-use borrow.Author.Rules.{rules}
 use Prim.Native.Nat.{◌-◌}
-use Rattle.texts.proofs.Digits.{Scanned, scanned_none, digit_fits, product_fits, scanned_more, scanned_stops, scanned_full}
+use Rattle.texts.proofs.Digits.{Scanned}
 use Rattle.texts.proofs.read.scan.Given as goal
 
 abbrev pub invariant-loop-k : goal.invariant-loop-k

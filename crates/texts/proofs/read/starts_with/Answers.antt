@@ -1,11 +1,8 @@
 -- The loop keeps: the bytes passed are those of the word (Passed).
 use borrow.Author.Rules.{rules}
-use Prim.Native.Nat.{◌-◌}
 use mathlib.Core.Path.{sym}
-use lib.Dec.{eqb}
-use lib.ListN.{length}
-use Rattle.texts.specs.Digits.{byte_at, starts_with}
-use Rattle.texts.proofs.Every.{Passed, passed_none, passed_more, passed_all, every_false, read_same, read_other}
+use Rattle.texts.specs.Digits.{starts_with}
+use Rattle.texts.proofs.Every.{passed_none, passed_more, passed_all, every_false, read_same, read_other}
 use Rattle.texts.proofs.read.starts_with.Goals as goal
 
 pub loop-i-init : goal.loop-i-init

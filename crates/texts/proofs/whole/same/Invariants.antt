@@ -1,7 +1,6 @@
 -- The loop keeps: what is left of both spells one number exactly if all does (Comparing).
 use Prim.Native.Nat.{◌+◌}
-use borrow.Author.Rules.{rules}
-use Rattle.texts.proofs.WholeNumbers.{Comparing, comparing_all, comparing_stops, comparing_less, comparing_done}
+use Rattle.texts.proofs.WholeNumbers.{Comparing}
 use Rattle.texts.proofs.whole.same.Given as goal
 
 abbrev pub invariant-loop-i : goal.invariant-loop-i

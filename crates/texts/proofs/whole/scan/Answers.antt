@@ -1,8 +1,6 @@
 -- The loop keeps: k digits are read, v stands for their number, and the text is worth what is left of it with that number in front (Scanning).
-use Prim.Native.Nat.{◌-◌}
-use lib.ListN.{length}
 use borrow.Author.Rules.{rules}
-use Rattle.texts.proofs.WholeNumbers.{Scanning, scanning_none, scanning_more, scanning_stops, scanning_ends}
+use Rattle.texts.proofs.WholeNumbers.{scanning_none, scanning_more, scanning_stops, scanning_ends}
 use Rattle.texts.proofs.whole.scan.Goals as goal
 
 pub loop-k-init : goal.loop-k-init

@@ -1,6 +1,5 @@
 -- Room or no room: the page's own test.
 use borrow.Author.Tests.{lt-ltb, le-ltb}
-use borrow.Author.Rules.{rules}
 use Rattle.texts.specs.Page.{written}
 use Rattle.texts.proofs.write.byte.Goals as goal
 

@@ -1,7 +1,6 @@
 -- The loop keeps: of the bytes that fit, the first i are written (Copying).
 use Prim.Native.Nat.{◌-◌}
-use borrow.Author.Rules.{rules}
-use Rattle.texts.proofs.Page.{Copying, copying_none, copying_more, copying_all}
+use Rattle.texts.proofs.Page.{Copying}
 use Rattle.texts.proofs.write.bytes.Given as goal
 
 abbrev pub invariant-loop-i : goal.invariant-loop-i

@@ -1,6 +1,5 @@
 -- The loop keeps: the digits of the rest, and after them those that are put, are the text (Spelling).
-use borrow.Author.Rules.{rules}
-use Rattle.texts.proofs.Spelling.{Spelling, spelling_none, spelling_room, spelling_more, spelling_ends}
+use Rattle.texts.proofs.Spelling.{Spelling}
 use Rattle.texts.proofs.write.spell.Given as goal
 
 abbrev pub invariant-loop-rest : goal.invariant-loop-rest
