@@ -1,9 +1,8 @@
 -- The loop keeps: the rows left to reduce give the whole (Turns).
 use borrow.Author.Rules.{rules}
-use Prim.Native.Nat.{◌-◌}
 use Rattle.matrices.proofs.Places.{row_place_kept}
 use Rattle.matrices.proofs.Turns.{run_turn, run_end}
-use Rattle.matrices.proofs.RowsReduced.{Reducing, reducing}
+use Rattle.matrices.proofs.RowsReduced.{reducing}
 use Rattle.dual.proofs.Flat.{dual_laws}
 use Rattle.dual_columns.proofs.reduce_rows.Goals as goal
 

@@ -12,7 +12,7 @@ returns-then-number-ne0 c = search (rules, solve_refused dual_algebra dual_layou
 -- the number is 0: the lengths are the wanted ones, the order is one
 pub solve_run-requires : goal.solve_run-requires
 solve_run-requires c =
-    let s = c.args in 
+    let s = c.args in
     let allowed = solve_allowed dual_laws _ _ _ s.b.now s.x.now _ c.solve-number.ensures c.if-number-ne0.false in
     record { square = allowed.0; order = allowed.1.0; b_len = allowed.1.1.0; x_len = allowed.1.1.1 }
 

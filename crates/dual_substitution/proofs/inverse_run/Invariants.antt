@@ -1,10 +1,6 @@
 -- The loop keeps: the columns left to run give the inverse (StartsWritten).
-use borrow.Author.Rules.{rules}
 use Prim.Native.Nat.{◌-◌}
-use Rattle.matrices.specs.Matrix.{Square}
-use Rattle.matrices.proofs.Places.{strided_column}
-use Rattle.matrices.proofs.Turns.{run_turn, run_end}
-use Rattle.matrices.proofs.StartsWritten.{Inverting, inverse_start}
+use Rattle.matrices.proofs.StartsWritten.{Inverting}
 use Rattle.dual.proofs.Flat.{dual_laws}
 use Rattle.dual_substitution.proofs.inverse_run.Given as goal
 

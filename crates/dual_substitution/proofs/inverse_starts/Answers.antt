@@ -1,13 +1,13 @@
 -- The loop keeps: the ones left to write give all starts (StartsWritten).
 use borrow.Author.Rules.{rules}
-use Prim.Native.Nat.{◌-◌, ◌<◌}
+use Prim.Native.Nat.{◌<◌}
 use lib.ListN.{get_or}
 use native.Mathlib.Omega.{arith}
 use Rattle.matrices.specs.Matrix.{Square, RowPlace}
 use Rattle.orders.proofs.Permutation.{order_below}
 use Rattle.matrices.proofs.Places.{row_place}
 use Rattle.matrices.proofs.Turns.{run_end}
-use Rattle.matrices.proofs.StartsWritten.{Ones, ones_start, ones_turn}
+use Rattle.matrices.proofs.StartsWritten.{ones_start, ones_turn}
 use Rattle.dual.proofs.Flat.{dual_laws}
 use Rattle.dual_substitution.proofs.inverse_starts.Goals as goal
 

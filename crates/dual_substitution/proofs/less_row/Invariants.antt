@@ -1,9 +1,6 @@
 -- The loop keeps: the products left to take give the whole row (Substitution).
-use borrow.Author.Rules.{rules}
-use Prim.Native.Nat.{◌+◌, ◌*◌, ◌≤◌, ◌-◌}
-use lib.ListN.{length}
-use native.Mathlib.Omega.{arith}
-use Rattle.matrices.proofs.Substitution.{Lessening, lessening, less_turn, less_end}
+use Prim.Native.Nat.{◌-◌}
+use Rattle.matrices.proofs.Substitution.{Lessening}
 use Rattle.dual.proofs.Flat.{dual_laws}
 use Rattle.dual_substitution.proofs.less_row.Given as goal
 

@@ -4,7 +4,7 @@ use Prim.Native.Nat.{◌-◌, ◌<◌}
 use native.Mathlib.Omega.{arith}
 use Rattle.matrices.proofs.Places.{row_place, strided_keep, strided_place}
 use Rattle.matrices.proofs.Turns.{run_turn, run_end}
-use Rattle.matrices.proofs.Substitution.{Backing, backing}
+use Rattle.matrices.proofs.Substitution.{backing}
 use Rattle.dual.proofs.Flat.{dual_laws}
 use Rattle.dual_substitution.proofs.run_back.Goals as goal
 

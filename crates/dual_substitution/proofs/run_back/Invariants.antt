@@ -1,10 +1,6 @@
 -- The loop keeps: the elements left to make, from the last back, give the whole (Turns).
-use borrow.Author.Rules.{rules}
-use Prim.Native.Nat.{◌-◌, ◌<◌}
-use native.Mathlib.Omega.{arith}
-use Rattle.matrices.proofs.Places.{row_place, strided_keep, strided_place}
-use Rattle.matrices.proofs.Turns.{run_turn, run_end}
-use Rattle.matrices.proofs.Substitution.{Backing, backing}
+use Prim.Native.Nat.{◌-◌}
+use Rattle.matrices.proofs.Substitution.{Backing}
 use Rattle.dual.proofs.Flat.{dual_laws}
 use Rattle.dual_substitution.proofs.run_back.Given as goal
 

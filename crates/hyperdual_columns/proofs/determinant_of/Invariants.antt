@@ -1,9 +1,6 @@
 -- The loop keeps: the diagonal's product and the order's marks, each as far as the turn (DiagonalWalk).
-use borrow.Author.Rules.{rules}
 use Prim.Native.Nat.{◌-◌}
-use Rattle.matrices.specs.Matrix.{RowPlace}
-use Rattle.matrices.proofs.Places.{row_place}
-use Rattle.matrices.proofs.DiagonalWalk.{Walking, walking, walk_bit, walk_turn, walk_stop, walk_refused, walk_end}
+use Rattle.matrices.proofs.DiagonalWalk.{Walking}
 use Rattle.hyperdual.proofs.Flat.{hyper_dual_laws}
 use Rattle.hyperdual_columns.proofs.determinant_of.Given as goal
 

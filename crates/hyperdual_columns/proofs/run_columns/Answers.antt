@@ -1,7 +1,6 @@
 -- The loop keeps: the columns left to run give LU (ColumnsRun).
 use borrow.Author.Rules.{rules}
-use Prim.Native.Nat.{◌-◌}
-use Rattle.matrices.proofs.ColumnsRun.{Columns, columns_start, columns_turn, columns_stop, columns_end}
+use Rattle.matrices.proofs.ColumnsRun.{columns_start, columns_turn, columns_stop, columns_end}
 use Rattle.hyperdual.proofs.Flat.{hyper_dual_laws}
 use Rattle.hyperdual_columns.proofs.run_columns.Goals as goal
 

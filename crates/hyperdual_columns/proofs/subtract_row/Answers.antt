@@ -1,7 +1,6 @@
 -- The loop keeps: the multiplier as it is, and what is left to run gives the whole row (RowsReduced).
 use borrow.Author.Rules.{rules}
-use Prim.Native.Nat.{◌-◌}
-use Rattle.matrices.proofs.RowsReduced.{Subtracting, subtract_start, subtract_turn, subtract_end}
+use Rattle.matrices.proofs.RowsReduced.{subtract_start, subtract_turn, subtract_end}
 use Rattle.hyperdual.proofs.Flat.{hyper_dual_laws}
 use Rattle.hyperdual_columns.proofs.subtract_row.Goals as goal
 

@@ -1,10 +1,9 @@
 -- The loop keeps: the columns left to run give the inverse (StartsWritten).
 use borrow.Author.Rules.{rules}
-use Prim.Native.Nat.{◌-◌}
 use Rattle.matrices.specs.Matrix.{Square}
 use Rattle.matrices.proofs.Places.{strided_column}
 use Rattle.matrices.proofs.Turns.{run_turn, run_end}
-use Rattle.matrices.proofs.StartsWritten.{Inverting, inverse_start}
+use Rattle.matrices.proofs.StartsWritten.{inverse_start}
 use Rattle.hyperdual.proofs.Flat.{hyper_dual_laws}
 use Rattle.hyperdual_substitution.proofs.inverse_run.Goals as goal
 

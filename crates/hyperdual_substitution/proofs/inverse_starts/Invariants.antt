@@ -1,13 +1,6 @@
 -- The loop keeps: the ones left to write give all starts (StartsWritten).
-use borrow.Author.Rules.{rules}
-use Prim.Native.Nat.{◌-◌, ◌<◌}
-use lib.ListN.{get_or}
-use native.Mathlib.Omega.{arith}
-use Rattle.matrices.specs.Matrix.{Square, RowPlace}
-use Rattle.orders.proofs.Permutation.{order_below}
-use Rattle.matrices.proofs.Places.{row_place}
-use Rattle.matrices.proofs.Turns.{run_end}
-use Rattle.matrices.proofs.StartsWritten.{Ones, ones_start, ones_turn}
+use Prim.Native.Nat.{◌-◌}
+use Rattle.matrices.proofs.StartsWritten.{Ones}
 use Rattle.hyperdual.proofs.Flat.{hyper_dual_laws}
 use Rattle.hyperdual_substitution.proofs.inverse_starts.Given as goal
 

@@ -1,5 +1,4 @@
 -- The body is the definition's own operations in its order, so that every need is found.
-use borrow.Author.Rules.{rules}
 use Rattle.hyperdual_substitution.proofs.less_product.Goals as goal
 
 pub returns : goal.returns

@@ -1,9 +1,9 @@
 -- The loop keeps: the products left to take give the whole row (Substitution).
 use borrow.Author.Rules.{rules}
-use Prim.Native.Nat.{◌+◌, ◌*◌, ◌≤◌, ◌-◌}
+use Prim.Native.Nat.{◌+◌, ◌*◌, ◌≤◌}
 use lib.ListN.{length}
 use native.Mathlib.Omega.{arith}
-use Rattle.matrices.proofs.Substitution.{Lessening, lessening, less_turn, less_end}
+use Rattle.matrices.proofs.Substitution.{lessening, less_turn, less_end}
 use Rattle.hyperdual.proofs.Flat.{hyper_dual_laws}
 use Rattle.hyperdual_substitution.proofs.less_row.Goals as goal
 

@@ -1,9 +1,8 @@
 -- The loop keeps: the elements left to make, from the first on, give the whole (Turns).
 use borrow.Author.Rules.{rules}
-use Prim.Native.Nat.{◌-◌}
 use Rattle.matrices.proofs.Places.{row_place, strided_keep, strided_place}
 use Rattle.matrices.proofs.Turns.{run_turn, run_end}
-use Rattle.matrices.proofs.Substitution.{Forwarding, forwarding}
+use Rattle.matrices.proofs.Substitution.{forwarding}
 use Rattle.hyperdual.proofs.Flat.{hyper_dual_laws}
 use Rattle.hyperdual_substitution.proofs.run_forward.Goals as goal
 

@@ -1,9 +1,6 @@
 -- The loop keeps: the elements passed hold their starts (StartsWritten).
-use borrow.Author.Rules.{rules}
 use Prim.Native.Nat.{◌-◌}
-use native.Mathlib.Omega.{arith}
-use Rattle.orders.proofs.Permutation.{order_below}
-use Rattle.matrices.proofs.StartsWritten.{Starting, starting, start_turn, start_end, start_of}
+use Rattle.matrices.proofs.StartsWritten.{Starting, start_of}
 use Rattle.hyperdual.proofs.Flat.{hyper_dual_laws}
 use Rattle.hyperdual_substitution.proofs.solve_starts.Given as goal
 

@@ -1,8 +1,6 @@
 -- The loop keeps: what was passed holds what its word says (Filling).
 use borrow.Author.Rules.{rules}
-use Prim.Native.Nat.{◌-◌}
-use lib.ListN.{length, get_or}
-use Rattle.floats.proofs.Fill.{Filling, filling_none, filling_more, filling_all}
+use Rattle.floats.proofs.Fill.{filling_none, filling_more, filling_all}
 use Rattle.replay_matrices.proofs.order_of.Goals as goal
 
 pub loop-i-init : goal.loop-i-init

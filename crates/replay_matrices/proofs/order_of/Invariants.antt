@@ -1,8 +1,7 @@
 -- The loop keeps: what was passed holds what its word says (Filling).
-use borrow.Author.Rules.{rules}
 use Prim.Native.Nat.{◌-◌}
 use lib.ListN.{length, get_or}
-use Rattle.floats.proofs.Fill.{Filling, filling_none, filling_more, filling_all}
+use Rattle.floats.proofs.Fill.{Filling}
 use Rattle.replay_matrices.proofs.order_of.Given as goal
 
 abbrev pub invariant-loop-i : goal.invariant-loop-i

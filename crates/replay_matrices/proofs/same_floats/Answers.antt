@@ -1,10 +1,6 @@
 -- The loop keeps: what was passed is the same (Alike).
 use borrow.Author.Rules.{rules}
-use Prim.Native.Nat.{◌-◌}
-use lib.ListN.{length}
-use lib.Ieee.{nan}
-use Rattle.replay_matrices.specs.Cases.{is_word_of}
-use Rattle.replay.proofs.Alike.{Alike, lengths_differ, alike_none, alike_more, alike_not, alike_all, same_number, other_number}
+use Rattle.replay.proofs.Alike.{lengths_differ, alike_none, alike_more, alike_not, alike_all, same_number, other_number}
 use Rattle.replay_matrices.proofs.same_floats.Goals as goal
 
 pub returns-then-words-floats : goal.returns-then-words-floats

@@ -1,10 +1,9 @@
 -- The loop keeps: what was passed is the same (Alike).
-use borrow.Author.Rules.{rules}
 use Prim.Native.Nat.{◌-◌}
 use lib.ListN.{length}
 use lib.Ieee.{nan}
 use Rattle.replay_matrices.specs.Cases.{is_word_of}
-use Rattle.replay.proofs.Alike.{Alike, lengths_differ, alike_none, alike_more, alike_not, alike_all, same_number, other_number}
+use Rattle.replay.proofs.Alike.{Alike}
 use Rattle.replay_matrices.proofs.same_floats.Given as goal
 
 abbrev pub invariant-loop-i : goal.invariant-loop-i

@@ -1,10 +1,7 @@
 -- The loop keeps: what was passed is the same (Alike).
 use borrow.Author.Rules.{rules}
-use Prim.Native.Nat.{◌-◌}
-use lib.ListN.{length}
-use lib.Dec.{eqb}
 use borrow.Author.Tests.{eq-eqb, ne_eqb}
-use Rattle.replay.proofs.Alike.{Alike, lengths_differ, alike_none, alike_more, alike_not, alike_all}
+use Rattle.replay.proofs.Alike.{lengths_differ, alike_none, alike_more, alike_not, alike_all}
 use Rattle.replay_matrices.proofs.same_order.Goals as goal
 
 pub returns-then-numbers-order : goal.returns-then-numbers-order

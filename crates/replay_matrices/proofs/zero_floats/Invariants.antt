@@ -1,10 +1,9 @@
 -- The loop keeps: what was passed is zero (Zeros).
-use borrow.Author.Rules.{rules}
 use Prim.Native.Nat.{◌-◌}
 use lib.ListN.{length}
 use lib.Ieee.{nan}
 use Rattle.replay_matrices.specs.Cases.{is_word_of}
-use Rattle.replay_matrices.proofs.Zeros.{Zeros, zeros_none, zeros_more, zeros_not, zeros_all, is_zero, no_zero}
+use Rattle.replay_matrices.proofs.Zeros.{Zeros}
 use Rattle.replay_matrices.proofs.zero_floats.Given as goal
 
 abbrev pub invariant-loop-i : goal.invariant-loop-i

@@ -1,9 +1,6 @@
 -- The loop keeps: what was passed is zero (Zeros).
 use borrow.Author.Rules.{rules}
-use Prim.Native.Nat.{◌-◌}
-use lib.ListN.{length}
-use lib.Dec.{eqb}
-use Rattle.replay_matrices.proofs.Zeros.{Zeros, zeros_none, zeros_more, zeros_not, zeros_all, zero_self, other_self}
+use Rattle.replay_matrices.proofs.Zeros.{zeros_none, zeros_more, zeros_not, zeros_all, zero_self, other_self}
 use Rattle.replay_matrices.proofs.zero_order.Goals as goal
 
 pub loop-i-init : goal.loop-i-init
