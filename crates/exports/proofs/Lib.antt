@@ -2,6 +2,6 @@
 mod Crossed
 mod KindArms
 -- this crate's promises leave one outcome each
-mod OneAnswer
+pub mod OneAnswer
 -- calls of the Matrix Market exports, one and two
 mod MarketCalls

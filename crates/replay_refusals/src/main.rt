@@ -5,11 +5,11 @@
 
 mod entries;
 
-use std::fs::File;
-use std::os::fd::AsRawFd;
 use replay::tally::{Compared, Tally};
 use replay::{Place, Read, tally};
 use replay_outcomes::Outcome;
+use std::fs::File;
+use std::os::fd::AsRawFd;
 
 // The next numbers of the file, of one to sixteen digits each.
 fn read_numbers(

@@ -1,6 +1,4 @@
 -- The loop ends: fewer cases are left after each.
-use Rattle.replay.proofs.Falls.{falls}
-use borrow.Author.Rules.{rules}
 use Rattle.replay_jacobi.proofs.cases.Given as goal
 
 abbrev pub invariant-loop-run : goal.invariant-loop-run

@@ -1,6 +1,5 @@
 -- The first run, then the second.
 use mathlib.Core.Path.{sym, ◌∙◌}
-use borrow.Author.Rules.{rules}
 use Rattle.replay_jacobi.proofs.same_runs.Goals as goal
 
 -- the first is the same: by the second

@@ -1,5 +1,5 @@
 -- The loop keeps: what was passed is spoiled, what is to come is as it was (Spoiling).
-use Prim.Native.Nat.{ℕ, ◌+◌, ◌-◌, ◌≤◌, ◌<◌}
+use Prim.Native.Nat.{ℕ, ◌+◌, ◌≤◌, ◌<◌}
 use mathlib.Core.Path.{◌≡◌, refl, sym, ap, ◌∙◌}
 use mathlib.Core.List.{List}
 use lib.ListN.{length, get_or, set, length-set}
@@ -8,7 +8,7 @@ use lib.Ieee.{Float, nan}
 use native.Mathlib.Omega.{arith}
 use Rattle.algebra.specs.Flat.{tabulate}
 use Rattle.algebra.proofs.Flat.{tabulate_length, tabulate_at}
-use Rattle.floats.proofs.Fill.{Filled, filled_more, filled_all}
+use Rattle.floats.proofs.Fill.{filled_more, filled_all}
 use Rattle.replay_jacobi.specs.Runs.{spoiled_at, spoiled_of}
 use borrow.Author.Rules.{rules}
 use Rattle.replay_jacobi.proofs.spoil.Goals as goal

@@ -1,16 +1,11 @@
 -- The loop keeps: what was passed is spoiled, what is to come is as it was (Spoiling).
-use Prim.Native.Nat.{ℕ, ◌+◌, ◌-◌, ◌≤◌, ◌<◌}
-use mathlib.Core.Path.{◌≡◌, refl, sym, ap, ◌∙◌}
+use Prim.Native.Nat.{ℕ, ◌-◌, ◌≤◌}
+use mathlib.Core.Path.{◌≡◌}
 use mathlib.Core.List.{List}
-use lib.ListN.{length, get_or, set, length-set}
-use lib.Seq.{get_or-set_other}
+use lib.ListN.{length, get_or}
 use lib.Ieee.{Float, nan}
-use native.Mathlib.Omega.{arith}
-use Rattle.algebra.specs.Flat.{tabulate}
-use Rattle.algebra.proofs.Flat.{tabulate_length, tabulate_at}
-use Rattle.floats.proofs.Fill.{Filled, filled_more, filled_all}
-use Rattle.replay_jacobi.specs.Runs.{spoiled_at, spoiled_of}
-use borrow.Author.Rules.{rules}
+use Rattle.floats.proofs.Fill.{Filled}
+use Rattle.replay_jacobi.specs.Runs.{spoiled_at}
 use Rattle.replay_jacobi.proofs.spoil.Given as goal
 
 pub record Spoiling (n : ℕ) (l a : List Float) (k : ℕ) : Type 0 where

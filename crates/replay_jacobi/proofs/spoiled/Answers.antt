@@ -1,7 +1,6 @@
 -- Each answer by the tests that led to it.
 use borrow.Author.Tests.{eq-eqb, ne_eqb, le-leb, lt-leb}
 use Rattle.replay_jacobi.specs.Runs.{spoiled_at}
-use borrow.Author.Rules.{rules}
 use Rattle.replay_jacobi.proofs.spoiled.Goals as goal
 
 -- no matrix

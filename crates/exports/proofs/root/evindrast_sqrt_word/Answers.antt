@@ -1,5 +1,4 @@
 -- The word becomes a float, the float its root, the root a word: the definition's own three steps.
-use borrow.Author.Rules.{rules}
 use Rattle.exports.proofs.root.evindrast_sqrt_word.Goals as goal
 
 -- each step from the one before

@@ -1,6 +1,5 @@
 -- By the width: each record by its own entry.
 use borrow.Author.Tests.{eq-eqb, ne_eqb}
-use borrow.Author.Rules.{rules}
 use Rattle.replay_lu.proofs.over.same_determinant.Goals as goal
 
 -- two floats: `Dual`

@@ -1,0 +1,2 @@
+-- The promise of each export leaves one outcome.
+pub mod OneAnswer
