@@ -1,14 +1,13 @@
 #!/usr/bin/env python3
 """Brings this repository's own definitions and lemmas to the spelling of today's Rattle.
 
-usage: python3 tools/rename.py            at the top of the repository, after port.py: rewrites crates/ and prints what got which name
+usage: python3 tools/rename.py            at the top of the repository, after port.py: rewrites crates/, prints the names
        python3 tools/rename.py --list     prints that alone
 
-A name of the logic in camel case that begins with a small letter becomes snake case. In a lemma's name a dash stays beside the
-name of a definition that shows as one (in camel or snake case), and becomes an underscore elsewhere. Source names and strings
-stay, and so
-do names that the library has too; `must-fail/` is brought over by hand. Names that would fall together are refused. A second run
-changes nothing.
+A name of the logic in camel case that begins with a small letter becomes snake case. In a lemma's name a dash stays
+beside the name of a definition that shows as one (in camel or snake case), and becomes an underscore elsewhere. Source
+names and strings stay, and so do names that the library has too; `must-fail/` is brought over by hand. Names that would
+fall together are refused. A second run changes nothing.
 """
 
 import os
