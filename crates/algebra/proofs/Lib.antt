@@ -8,3 +8,5 @@ pub mod Laws
 pub mod Cells
 -- the loop of a sum or a product
 pub mod Joins
+-- an answer is known by its outcome
+pub mod Outcomes

@@ -1,10 +1,17 @@
 -- What a request over a record gives: document 01's "a record of the asked type or a refusal number". Definitions only.
-use Rattle.std.specs.Prelude.{ℕ}
+use Rattle.std.specs.Prelude.{ℕ, Result, Ok, Err}
+use Rattle.refusals.specs.Refused.{number}
+use Rattle.refusals.specs.declared.Refusal.{Refusal}
 
 -- a record, or a refusal by its number
 pub data Outcome (R : Type 0) : Type 0 where
   value : R → Outcome R
   refused : ℕ → Outcome R
+
+-- the code's answer as an outcome: the record, or the number that it is refused by
+abbrev pub outcome : {R : Type 0} → Result R Refusal → Outcome R
+outcome (Ok x) = value x
+outcome (Err e) = refused (number e)
 
 -- document 01's number: 0 is done
 abbrev pub number_of : {R : Type 0} → Outcome R → ℕ

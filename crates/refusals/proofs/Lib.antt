@@ -1,2 +1,3 @@
 -- Laws for whatever refuses. Assumes nothing.
 pub mod FirstRefusal
+pub mod Numbers

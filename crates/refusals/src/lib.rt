@@ -1,45 +1,88 @@
-// The documents' numbers for refusals, and the limits that they are given at. specs/ has the same by name for contracts and definitions: a proof that
-// meets both holds them to each other.
+// The refusals of the documents, by name and by number, and the limits that they are given at. specs/ has the same by name for contracts and definitions: a
+// proof that meets both holds them to each other.
 
 #![tactic(auto)]
 
-// n above `LARGEST_N`.
-pub const TOO_LARGE: u32 = 1;
+ghost use Rattle.std.specs.Prelude.{◌≡◌};
+ghost use Rattle.refusals.specs.Refused.{number};
 
-// A lent length is not the one wanted.
-pub const WRONG_LENGTH: u32 = 2;
+// What a call is refused for. LU's refusal of a singular matrix, which has a column beside it, is `matrices::LuRefusal`'s.
+#[derive(Clone, Copy, Debug, PartialEq, Eq, Hash)]
+pub enum Refusal {
+    // n above `LARGEST_N`
+    TooLarge,
+    // a lent length is not the one wanted
+    WrongLength,
+    // Jacobi with n = 0
+    Empty,
+    // a sweep limit above `LARGEST_LIMIT`
+    LimitTooLarge,
+    // a powi exponent outside `LEAST_EXPONENT`..`LARGEST_EXPONENT`
+    ExponentTooLarge,
+    // a lent order is not a permutation
+    NotAnOrder,
+    // a determinant's swap count is above `LARGEST_SWAPS` or does not fit the order
+    WrongSwaps,
+    // a text that `dualrun` cannot read
+    Unreadable,
+    // a Matrix Market text above `LARGEST_MARKET` bytes, or whose header, size line or number cannot be read, or a magnitude above `LARGEST_WHOLE`
+    UnreadableMarket,
+    // a Matrix Market text of a matrix that is not square
+    NotSquare,
+    // a Matrix Market text with too few entries, or any byte after the last
+    WrongEntries,
+    // a matrix that Matrix Market cannot hold here: a real part that is no whole number up to `LARGEST_WHOLE`, or a derivative part that is not zero
+    Unwritable,
+}
 
-// Jacobi with n = 0.
-pub const EMPTY: u32 = 3;
+impl Refusal {
+    // The documents' number.
+    pub fn number(self) -> u32
+        ensures { result ≡ number self }
+    {
+        match self {
+            Refusal::TooLarge => 1,
+            Refusal::WrongLength => 2,
+            Refusal::Empty => 3,
+            Refusal::LimitTooLarge => 4,
+            Refusal::ExponentTooLarge => 5,
+            Refusal::NotAnOrder => 7,
+            Refusal::WrongSwaps => 8,
+            Refusal::Unreadable => 9,
+            Refusal::UnreadableMarket => 10,
+            Refusal::NotSquare => 11,
+            Refusal::WrongEntries => 12,
+            Refusal::Unwritable => 20,
+        }
+    }
+}
 
-// A sweep limit above `LARGEST_LIMIT`.
-pub const LIMIT_TOO_LARGE: u32 = 4;
-
-// A powi exponent outside `LEAST_EXPONENT`..`LARGEST_EXPONENT`.
-pub const EXPONENT_TOO_LARGE: u32 = 5;
-
-// No pivot exceeds zero.
+// The number of LU's refusal of a matrix in which no pivot exceeds zero.
 pub const SINGULAR: u32 = 6;
 
-// A lent order is not a permutation.
+// Until every crate takes the enum.
+pub const TOO_LARGE: u32 = 1;
+
+pub const WRONG_LENGTH: u32 = 2;
+
+pub const EMPTY: u32 = 3;
+
+pub const LIMIT_TOO_LARGE: u32 = 4;
+
+pub const EXPONENT_TOO_LARGE: u32 = 5;
+
 pub const NOT_AN_ORDER: u32 = 7;
 
-// A determinant's swap count is above `LARGEST_SWAPS` or does not fit the order.
 pub const WRONG_SWAPS: u32 = 8;
 
-// A text that `dualrun` cannot read.
 pub const UNREADABLE: u32 = 9;
 
-// A Matrix Market text above `LARGEST_MARKET` bytes, or whose header, size line or number cannot be read, or a magnitude above `LARGEST_WHOLE`.
 pub const UNREADABLE_MARKET: u32 = 10;
 
-// A Matrix Market text of a matrix that is not square.
 pub const NOT_SQUARE: u32 = 11;
 
-// A Matrix Market text with too few entries, or any byte after the last.
 pub const WRONG_ENTRIES: u32 = 12;
 
-// A matrix that Matrix Market cannot hold here: a real part that is no whole number up to `LARGEST_WHOLE`, or a derivative part that is not zero.
 pub const UNWRITABLE: u32 = 20;
 
 // The largest n of a matrix.
