@@ -8,6 +8,8 @@ ghost use Rattle.refusals.specs.Largest as largest;
 ghost use Rattle.derivatives.specs.Plan.{plan_of, plan_powi, plan_powf, is_small, small};
 ghost use Rattle.derivatives.specs.Series.{recip_series, powi_series, powf_series, sqrt_series, cbrt_series, exp_series, exp2_series, exp_m1_series, logarithm_series, ln_series, log_series, log2_series, log10_series, ln1p_series, sin_series, cos_series, asin_series, acos_series, atan_series, sinh_series, cosh_series, asinh_series, acosh_series, atanh_series};
 
+use refusals::Refusal;
+
 const THIRD: f64 = 1.0 / 3.0;
 
 const LN_2: f64 = 0.6931471805599453;
@@ -64,8 +66,8 @@ pub enum Function {
 // What a record x does for a request.
 #[derive(Clone, Copy)]
 pub enum Plan {
-    // the number that it is refused by
-    Refused(u32),
+    // what it is refused for
+    Refused(Refusal),
     // one, x itself, or x * x
     One,
     Same,
@@ -390,10 +392,10 @@ fn plan_powi(re: f64, exp: i32, pow3: f64) -> Plan
     ensures { result ≡ plan_powi re exp pow3 }
 {
     if exp < refusals::LEAST_EXPONENT {
-        return Plan::Refused(refusals::EXPONENT_TOO_LARGE);
+        return Plan::Refused(Refusal::ExponentTooLarge);
     }
     if exp > refusals::LARGEST_EXPONENT {
-        return Plan::Refused(refusals::EXPONENT_TOO_LARGE);
+        return Plan::Refused(Refusal::ExponentTooLarge);
     }
     match exp {
         0 => Plan::One,
