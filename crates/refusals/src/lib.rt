@@ -4,7 +4,7 @@
 #![tactic(auto)]
 
 ghost use Rattle.std.specs.Prelude.{◌≡◌};
-ghost use Rattle.refusals.specs.Refused.{number};
+ghost use Rattle.refusals.specs.Refused.{number, answer_number};
 
 // What a call is refused for. LU's refusal of a singular matrix, which has a column beside it, is `matrices::LuRefusal`'s.
 #[derive(Clone, Copy, Debug, PartialEq, Eq, Hash)]
@@ -54,6 +54,16 @@ impl Refusal {
             Refusal::WrongEntries => 12,
             Refusal::Unwritable => 20,
         }
+    }
+}
+
+// The documents' number of an answer, 0 where the call is done.
+pub fn answer_number<T: Copy>(answer: Result<T, Refusal>) -> u32
+    ensures { result ≡ answer_number answer }
+{
+    match answer {
+        Ok(_) => 0,
+        Err(refusal) => refusal.number(),
     }
 }
 
