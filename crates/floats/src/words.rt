@@ -24,8 +24,8 @@ pub fn put(parts: &[f64], out: &mut [u64])
     requires { length out.old ≡ length parts.now }
     ensures { out.new ≡ words_of parts.now }
 {
-    for (word, float) in out.iter_mut().zip(parts) {
-        *word = real::word_of_float(*float);
+    for (i, word) in out.iter_mut().enumerate() {
+        *word = real::word_of_float(parts[i]);
     }
 }
 
