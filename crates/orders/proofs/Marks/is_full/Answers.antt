@@ -5,7 +5,7 @@ use lib.Dec.{eqb}
 use lib.Pow.{pow_pos}
 use native.Mathlib.Omega.{arith}
 use Rattle.orders.proofs.Walk.{one_shifted}
-use Rattle.orders.proofs.is_full.Goals as goal
+use Rattle.orders.proofs.Marks.is_full.Goals as goal
 
 -- 1 << n is 2 ^ n, which is not zero
 pub overflow_sub-result : goal.overflow_sub-result
@@ -13,4 +13,4 @@ overflow_sub-result c = omega (arith, one_shifted c.args.n (omega arith), pow_po
 
 -- and the shift loses nothing of it, as n is at most 32
 pub returns : goal.returns
-returns c = ap (λ (k : ℕ). eqb (c.args.word / 2 ^ 32) (k - 1)) (one_shifted c.args.n (omega arith))
+returns c = ap (λ (k : ℕ). eqb (c.args.self.word / 2 ^ 32) (k - 1)) (one_shifted c.args.n (omega arith))

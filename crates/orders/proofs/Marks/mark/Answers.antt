@@ -7,7 +7,7 @@ use native.Mathlib.Omega.{arith}
 use borrow.Author.Rules.{rules}
 use Rattle.refusals.specs.Largest as largest
 use Rattle.orders.specs.Walk.{mark_of}
-use Rattle.orders.proofs.mark.Goals as goal
+use Rattle.orders.proofs.Marks.mark.Goals as goal
 
 -- the shift loses nothing, as x is below 32
 shifted : (x : ℕ) → x < largest.n → 4294967297 * 2 ^ x % 2 ^ 64 ≡ 4294967297 * 2 ^ x
@@ -18,12 +18,12 @@ mark_by : (x : ℕ) → x < largest.n → 4294967297 * 2 ^ x % 2 ^ 64 - 1 ≡ ma
 mark_by x h = let e = shifted x h in let p = pow_pos x in omega arith
 
 -- what is shifted is not zero
-pub overflow_sub-result : goal.overflow_sub-result
-overflow_sub-result c = omega (arith, shifted c.args.x (search rules), pow_pos c.args.x)
+pub overflow_sub-self : goal.overflow_sub-self
+overflow_sub-self c = omega (arith, shifted c.args.x (search rules), pow_pos c.args.x)
 
--- both fields of the answer are the definition's
+-- both fields are the definition's
 pub returns : goal.returns
 returns c =
-    let m = c.args.m in
+    let m = c.args.self.now in
     let x = c.args.x in
     λ i. record { word = bit_xor m.word (mark_by x c.requires i); inversions = bit_xor m.inversions (m.word / 2 ^ x) }
