@@ -6,7 +6,7 @@
 
 mod functions;
 
-ghost use Rattle.std.specs.Prelude.{◌≡◌, ◌<◌, ℕ, Float, not, length, get_or, set};
+ghost use Rattle.std.specs.Prelude.{◌≡◌, ◌+◌, ◌*◌, ◌/◌, ◌<◌, ◌≤◌, ℕ, Float, not, length, get_or, set};
 ghost use Rattle.std.specs.Float.Ieee.{eq};
 ghost use Rattle.real.specs.Operations.{zero, one};
 ghost use Rattle.real.specs.Sign.{sign_of};
@@ -284,6 +284,15 @@ pub trait ThirdDerivative: Record {
     {
         functions::sph_j1_series(self, sin, cos)
     }
+}
+
+// The first float of record number `at` of `length` floats, at `width` floats a record: the record's floats all are there.
+pub fn place(length: usize, width: usize, at: usize) -> usize
+    requires { at < length / width }
+    ensures first { result ≡ at * width }
+    ensures inside { result + width ≤ length }
+{
+    at * width
 }
 
 pub fn nderiv<R: Record>() -> usize
