@@ -98,6 +98,9 @@ pub const UNWRITABLE: u32 = 20;
 // The largest n of a matrix.
 pub const LARGEST_N: usize = 32;
 
+// The most floats of a record.
+pub const LARGEST_WIDTH: usize = 8;
+
 // The largest limit of sweeps.
 pub const LARGEST_LIMIT: usize = 1000;
 
