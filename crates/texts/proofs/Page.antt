@@ -153,6 +153,9 @@ puts_none = record { lent = refl; put = refl }
 pub puts_then : {u v w : Writer} (a b : List ℕ) → Puts u v a → Puts v w b → Puts u w (a ++ b)
 puts_then {u} a b f g = record { lent = g.lent ∙ f.lent; put = then (page_of u) a b f.put g.put }
 
+pub puts_as : {u v : Writer} {a b : List ℕ} → Puts u v a → a ≡ b → Puts u v b
+puts_as {u} f e = record { lent = f.lent; put = f.put ∙ ap (written (page_of u)) e }
+
 -- from a new writer to the buffer that it leaves
 pub puts_all : {v w : Writer} {l out : List ℕ} (a : List ℕ) → page_of v ≡ page l 0 → Puts v w a → out ≡ w.out.now → page out w.used ≡ written (page l 0) a
 puts_all {w = w} a e f h = ap (λ (m : List ℕ). page m w.used) h ∙ f.put ∙ ap (λ (p : Page). written p a) e
