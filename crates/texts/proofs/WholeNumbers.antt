@@ -5,14 +5,16 @@ use mathlib.Core.Bool.{Bool, true, false, cond, true≢false}
 use mathlib.Core.List.{List, [], ◌∷◌}
 use native.Mathlib.Omega.{arith}
 use lib.Dec.{leb, ltb, eqb}
-use lib.ListN.{length, drop, drop_of_length-le}
+use lib.ListN.{length, drop, get_or, length-drop, drop_of_length-le}
 use lib.Seq.{drop-cons, drop-drop, get_or-drop}
 use borrow.Author.Count.{below_more}
 use borrow.Author.Tests.{leb-true, leb-false, lt-ltb, le-ltb, ltb-true, ltb-false, eq-eqb, ne_eqb, eqb-true}
+use Rattle.std.specs.Prelude.{Some, None}
 use Rattle.texts.specs.declared.Scan.{Scan}
-use Rattle.texts.specs.Digits.{byte_at, is_digit, digit_value, number_at}
+use Rattle.texts.specs.Bytes.{digit_zero}
+use Rattle.texts.specs.Digits.{byte_at, is_digit, digit_value, digit_of, number_at}
 use Rattle.texts.specs.Whole.{worth, past, last_of, Capped, Grown, Found, DigitsAt}
-use Rattle.texts.proofs.Digits.{past_end}
+use Rattle.texts.proofs.Digits.{past_end, decimal_digit, digit_was, digit_was_none}
 
 -- ---- what is left of a text from i on, by its first byte
 module _ (text : List ℕ) (i : ℕ) where
@@ -82,16 +84,27 @@ module _ (most : ℕ) (text : List ℕ) (p : ℕ) where
         digits = record { inside = omega arith; all = λ j lt. absurd (omega arith) };
       }
 
-  module _ (v k : ℕ) (s : Scanning most text p v k) where
-    pub scanning_more : (d r : ℕ) → k < length text - p → d ≡ digit_value (byte_at text (p + k)) → d < 10 → Grown most v d r → Scanning most text p r (k + 1)
+  -- `left` is what the loop goes over: the text from p on
+  module _ (v k : ℕ) (s : Scanning most text p v k) (left : List ℕ) (is : left ≡ drop p text) where
+    left_at : (b : ℕ) → b ≡ get_or left k 0 → b ≡ byte_at text (p + k)
+    left_at b e = e ∙ ap (λ (l : List ℕ). get_or l k 0) is ∙ get_or-drop p text k 0
+
+    left_inside : k < length left → p + k < length text
+    left_inside h = omega (arith, ap length is, length-drop p text)
+
+    -- a digit d more, the byte b being what stands at p + k
+    pub scanning_more : (b d r : ℕ) → k < length left → b ≡ get_or left k 0 → Some d ≡ digit_of 10 b → Grown most v d r → Scanning most text p r (k + 1)
     unfolding number_at
-    scanning_more d r h e small g =
-        let inside : p + k < length text = omega arith in
+    scanning_more b d r h at e g =
+        let was = digit_was 10 b d e in
+        let inside = left_inside h in
+        let here = left_at b at in
+        let worth_of : d ≡ digit_value (byte_at text (p + k)) = was.0 ∙ ap digit_value here in
         let digit : is_digit 10 (byte_at text (p + k)) ≡ true = lt-ltb (digit_value (byte_at text (p + k))) 10 (omega arith) in
         let more : number_at 10 text p k * 10 + digit_value (byte_at text (p + k)) ≡ number_at 10 text p (k + 1) = ap (number_at 10 text p) (let z : suc k ≡ k + 1 = omega arith in z) in
         let one : suc (p + k) ≡ p + (k + 1) = omega arith in record {
           small = g.small;
-          value = subst (Capped most r) (ap (λ (x : ℕ). number_at 10 text p k * 10 + x) e ∙ more) (capped_more most v (number_at 10 text p k) d r s.value g);
+          value = subst (Capped most r) (ap (λ (x : ℕ). number_at 10 text p k * 10 + x) worth_of ∙ more) (capped_more most v (number_at 10 text p k) d r s.value g);
           worths =
               s.worths ∙ worth_digit text (p + k) (number_at 10 text p k) inside digit
               ∙ ap (λ (x : ℕ). worth x (drop (suc (p + k)) text)) more
@@ -109,14 +122,18 @@ module _ (most : ℕ) (text : List ℕ) (p : ℕ) where
     }
 
     -- a byte that is no digit ends them, and so does the end of the text
-    pub scanning_stops : (d : ℕ) → k < length text - p → d ≡ digit_value (byte_at text (p + k)) → 10 ≤ d → Found most text p (record { value = v; digits = k })
-    scanning_stops d h e large =
-        let inside : p + k < length text = omega arith in
-        let other : is_digit 10 (byte_at text (p + k)) ≡ false = le-ltb (digit_value (byte_at text (p + k))) 10 (omega arith) in
+    pub scanning_stops : (b : ℕ) → k < length left → b ≡ get_or left k 0 → None ≡ digit_of 10 b → Found most text p (record { value = v; digits = k })
+    scanning_stops b h at e =
+        let here = left_at b at in
+        let inside = left_inside h in
+        let other : is_digit 10 (byte_at text (p + k)) ≡ false = ap (is_digit 10) (sym here) ∙ le-ltb (digit_value b) 10 (digit_was_none 10 b e) in
         found (worth_other text (p + k) (number_at 10 text p k) inside other) (past_other text (p + k) inside other)
 
-    pub scanning_ends : length text - p ≤ k → Found most text p (record { value = v; digits = k })
-    scanning_ends h = let g : length text ≤ p + k = omega arith in found (worth_end text (p + k) (number_at 10 text p k) g) (past_none text (p + k) g)
+    pub scanning_ends : length left ≤ k → k ≤ length left → Found most text p (record { value = v; digits = length left })
+    scanning_ends h g =
+        let end : length text ≤ p + k = omega (arith, ap length is, length-drop p text) in
+        subst (λ (n : ℕ). Found most text p (record { value = v; digits = n })) (let e : k ≡ length left = omega arith in e)
+        (found (worth_end text (p + k) (number_at 10 text p k) end) (past_none text (p + k) end))
 
 -- ---- two numbers, compared from their ends
 ends : (x y d e : ℕ) → d < 10 → e < 10 → (d ≡ e → ⊥) → x * 10 + d ≡ y * 10 + e → ⊥
@@ -145,9 +162,16 @@ module _ (text : List ℕ) (p : ℕ) where
   pub last_none : (k : ℕ) → k ≡ 0 → 0 ≡ last_of text p k
   last_none k e = ap (last_of text p) (sym e)
 
-  pub last_some : (k r : ℕ) → (k ≡ 0 → ⊥) → r ≡ digit_value (byte_at text (p + (k - 1))) → r ≡ last_of text p k
-  last_some zero r n e = absurd (n refl)
-  last_some (suc k) r n e = e ∙ ap (λ (m : ℕ). digit_value (byte_at text (p + m))) (let z : suc k - 1 ≡ k = omega arith in z)
+  -- the last of some digits, by its byte
+  pub last_least : (k : ℕ) → (k ≡ 0 → ⊥) → DigitsAt text p k → digit_zero ≤ byte_at text (p + (k - 1))
+  last_least zero n d = absurd (n refl)
+  last_least (suc k) n d = (decimal_digit (byte_at text (p + (suc k - 1))) (d.all (suc k - 1) (omega arith))).0
+
+  pub last_some : (k : ℕ) → (k ≡ 0 → ⊥) → DigitsAt text p k → byte_at text (p + (k - 1)) - digit_zero ≡ last_of text p k
+  last_some zero n d = absurd (n refl)
+  last_some (suc k) n d =
+      (decimal_digit (byte_at text (p + (suc k - 1))) (d.all (suc k - 1) (omega arith))).1
+      ∙ ap (λ (m : ℕ). digit_value (byte_at text (p + m))) (let z : suc k - 1 ≡ k = omega arith in z)
 
 -- what the loop keeps: i and j digits are left, and whether they spell one number is whether all do
 pub record Comparing (text : List ℕ) (p k q l i j : ℕ) : Type 0 where
@@ -156,8 +180,10 @@ pub record Comparing (text : List ℕ) (p k q l i j : ℕ) : Type 0 where
   pub answer : eqb (number_at 10 text p k) (number_at 10 text q l) ≡ eqb (number_at 10 text p i) (number_at 10 text q j)
 
 module _ (text : List ℕ) (p k q l : ℕ) where
-  pub comparing_all : DigitsAt text p k → DigitsAt text q l → Comparing text p k q l k l
-  comparing_all a b = record { left = a; right = b; answer = refl }
+  pub comparing_all : (i j : ℕ) → i ≡ k → j ≡ l → DigitsAt text p k → DigitsAt text q l → Comparing text p k q l i j
+  comparing_all i j e f a b =
+      subst (λ (n : ℕ). Comparing text p k q l n j) (sym e)
+      (subst (λ (n : ℕ). Comparing text p k q l k n) (sym f) (record { left = a; right = b; answer = refl }))
 
   module _ (i j x y : ℕ) (h : Comparing text p k q l i j) (at_left : x ≡ last_of text p i) (at_right : y ≡ last_of text q j) where
     pub comparing_stops : (x ≡ y → ⊥) → false ≡ eqb (number_at 10 text p k) (number_at 10 text q l)

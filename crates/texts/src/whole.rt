@@ -21,38 +21,29 @@ pub fn scan(text: &[u8], p: usize, most: u64) -> Scan
     requires { (p ≤ length text.now) × (most < 2 ^ 60) }
     ensures { Found most text.now p result }
 {
-    let mut value = 0u64;
-    let mut k = 0usize;
-    while k < text.len() - p {
-        let digit = read::digit_value(text[p + k]);
-        if 10 <= digit {
+    let rest = &text[p..];
+    let mut value = 0;
+    for (k, b) in rest.iter().enumerate() {
+        let Some(digit) = read::digit(10, *b) else {
             return Scan { value, digits: k };
-        }
+        };
         value = grown(value, digit, most);
-        k += 1;
     }
-    Scan { value, digits: k }
+    Scan {
+        value,
+        digits: rest.len(),
+    }
 }
 
 // The value of the last of k digits from p on; 0 where there is none.
-fn last(text: &[u8], p: usize, k: usize) -> u64
-    requires { p + k ≤ length text.now }
+fn last(text: &[u8], p: usize, k: usize) -> u8
+    requires { DigitsAt text.now p k }
     ensures { result ≡ last_of text.now p k }
 {
     if k == 0 {
         return 0;
     }
-    read::digit_value(text[p + (k - 1)])
-}
-
-// One less, if there is one.
-fn less(k: usize) -> usize
-    ensures { result ≡ k - 1 }
-{
-    if k == 0 {
-        return 0;
-    }
-    k - 1
+    text[p + (k - 1)] - b'0'
 }
 
 // The k digits from p on and the l digits from q on spell one number: compared from their ends, zeros in front where one is shorter.
@@ -62,14 +53,10 @@ pub fn same(text: &[u8], p: usize, k: usize, q: usize, l: usize) -> bool
     requires digits_at_2 { DigitsAt text.now q l }
     ensures { result ≡ eqb (number_at 10 text.now p k) (number_at 10 text.now q l) }
 {
-    let mut i = k;
-    let mut j = l;
-    while 0 < i + j {
-        if last(text, p, i) != last(text, q, j) {
+    for i in 0..k.max(l) {
+        if last(text, p, k.saturating_sub(i)) != last(text, q, l.saturating_sub(i)) {
             return false;
         }
-        i = less(i);
-        j = less(j);
     }
     true
 }
