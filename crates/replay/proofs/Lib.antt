@@ -1,3 +1,2 @@
--- Laws that the proofs cite, here and in the programs.
-pub mod Alike
+-- Laws that the proofs cite.
 pub mod Falls
