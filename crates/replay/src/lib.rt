@@ -5,6 +5,7 @@
 
 #![tactic(auto)]
 
+pub mod same;
 pub mod tally;
 mod words;
 

@@ -1,8 +1,8 @@
 // What is lent holds before a call, and one word of what it holds after.
-ghost use Rattle.std.specs.Prelude.{◌≡◌, ℕ};
-ghost use Rattle.std.specs.Float.{binary64};
-ghost use Rattle.std.specs.Float.Ieee.{to_bits};
+ghost use Rattle.std.specs.Prelude.{◌≡◌};
 ghost use Rattle.replay_outcomes.specs.Outcome.{joined, joined_all};
+
+use replay::same::HasWord;
 
 // The numbers of an input, one after another.
 fn next(x: u64) -> u64 {
@@ -63,38 +63,6 @@ impl Order {
         for (i, entry) in out.iter_mut().enumerate() {
             *entry = self.entry(i as u64, length) as usize;
         }
-    }
-}
-
-// What has a word: a float, a word itself, an entry of an order.
-pub trait HasWord: Copy {
-    ghost word: { Self → ℕ };
-
-    fn word(self) -> u64
-        ensures { result ≡ word self };
-}
-
-impl HasWord for f64 {
-    ghost word = { to_bits binary64 };
-
-    fn word(self) -> u64 {
-        real::word_of_float(self)
-    }
-}
-
-impl HasWord for u64 {
-    ghost word = { λ x. x };
-
-    fn word(self) -> u64 {
-        self
-    }
-}
-
-impl HasWord for usize {
-    ghost word = { λ x. x };
-
-    fn word(self) -> u64 {
-        self as u64
     }
 }
 
