@@ -1,6 +1,5 @@
 -- Tests that refuse nothing allow the work; each way out is one of the promise (EntriesAnswered).
 use mathlib.Core.Path.{ap, ◌∙◌}
-use borrow.Author.Rules.{rules}
 use Rattle.std.specs.Prelude.{Err}
 use Rattle.std.proofs.lemmas.Result.{err_from_is_err_and}
 use Rattle.matrices.proofs.EntriesAnswered.{determinant_allowed, determinant_unfit}
