@@ -14,39 +14,43 @@ use borrow.Table.Referent.{rt_f, f_float, f_int}
 use contract.Lifetimes.{Lfts}
 use denote.RattleType.{RattleType}
 use denote.Triple.Clauses.{Lasts, at_exit}
+use Rattle.std.specs.Prelude.{Result, Ok, Err}
 use Rattle.refusals.specs.Number as refusal
+use Rattle.refusals.specs.declared.Refusal.{Refusal}
+use Rattle.refusals.proofs.Numbers.{number_one, number_not_singular}
 use Rattle.real.specs.Operations as float
 use Rattle.real.proofs.Only.{Only}
 use Rattle.algebra.specs.Algebra.{Algebra}
 use Rattle.algebra.specs.Flat.{Layout, decode}
-use Rattle.algebra.specs.Outcome.{Outcome, value, refused, map_outcome}
+use Rattle.algebra.specs.Outcome.{Outcome, value, refused, number_of, map_outcome}
 use Rattle.matrices.specs.Answers.{lu_outcome, lu_column, solve_outcome}
 use Rattle.matrices.specs.Entries.{LuLeft, lu_answered, lu_left, SolveLeft, solve_answered, solve_left, inverse_left, determinant_left}
 use Rattle.matrices.specs.Determinant.{determinant_of}
 use Rattle.matrices.specs.PreviousContents.{EqualLu, EqualSolve}
 use Rattle.matrices.specs.SameReals.{Alike, SameLu, SameSolve}
-use Rattle.matrices.specs.declared.LuAnswer.{LuAnswer}
-use Rattle.matrices.specs.declared.LuAnswer.TheVariants as lu
-use Rattle.matrices.specs.declared.SolveAnswer.{SolveAnswer}
-use Rattle.matrices.specs.declared.SolveAnswer.TheVariants as solve
+use Rattle.matrices.specs.declared.LuRefusal.{LuRefusal}
+use Rattle.matrices.specs.declared.LuRefusal.TheVariants as lu
 use Rattle.matrices.proofs.AfterLu.{lu_full, solve_accepts, inverse_accepts, determinant_accepts}
 use Rattle.matrices.proofs.Answers.{LeavesOrder, lu_leaves_order, solve_done, inverse_done, determinant_done, lu_same, solve_same, inverse_same, determinant_same}
 use Rattle.algebra.proofs.Laws.{Laws}
+use Rattle.algebra.proofs.Outcomes.{outcome_one}
 use Rattle.matrices.proofs.PreviousContents.{lu_equal, lu_kept, lu_zero, solve_equal, solve_kept, inverse_equal, inverse_kept}
 use Rattle.orders.proofs.Times.{order_occurs}
 
 -- document 01's reading tells the answers apart
-pub lu_one : (x y : LuAnswer) → lu_outcome x ≡ lu_outcome y → lu_column x ≡ lu_column y → x ≡ y
-lu_one (lu.Done s) (lu.Done t) e f = cc
-lu_one (lu.Done s) (lu.Refused k c) e f = cc
-lu_one (lu.Refused k c) (lu.Done t) e f = cc
-lu_one (lu.Refused k c) (lu.Refused j d) e f = cc
+pub lu_one : (x y : Result ℕ LuRefusal) → lu_outcome x ≡ lu_outcome y → lu_column x ≡ lu_column y → x ≡ y
+lu_one (Ok s) (Ok t) e f = cc
+lu_one (Ok s) (Err (lu.Refused k)) e f = cc
+lu_one (Ok s) (Err (lu.Singular c)) e f = cc
+lu_one (Err (lu.Refused k)) (Ok t) e f = cc
+lu_one (Err (lu.Singular c)) (Ok t) e f = cc
+lu_one (Err (lu.Refused k)) (Err (lu.Refused j)) e f = ap (λ (z : Refusal). Err (lu.Refused z)) (number_one k j (ap number_of e))
+lu_one (Err (lu.Refused k)) (Err (lu.Singular d)) e f = absurd (number_not_singular k (ap number_of e))
+lu_one (Err (lu.Singular c)) (Err (lu.Refused j)) e f = absurd (number_not_singular j (sym (ap number_of e)))
+lu_one (Err (lu.Singular c)) (Err (lu.Singular d)) e f = ap (λ (z : ℕ). Err (lu.Singular z)) f
 
-pub solve_one : (x y : SolveAnswer) → solve_outcome x ≡ solve_outcome y → x ≡ y
-solve_one solve.Done solve.Done e = refl
-solve_one solve.Done (solve.Refused k) e = cc
-solve_one (solve.Refused k) solve.Done e = cc
-solve_one (solve.Refused k) (solve.Refused j) e = cc
+pub solve_one : (x y : Result (Unit {0}) Refusal) → solve_outcome x ≡ solve_outcome y → x ≡ y
+solve_one = outcome_one
 
 -- what relates two values relates what is equal to them
 carried : {S : Type 0} (T : S → S → Type 0) {x x' y y' : S} → x ≡ y → x' ≡ y' → T y y' → T x x'

@@ -16,8 +16,5 @@ ghost use Rattle.replay.specs.Same.{same_numbers};
 pub(crate) fn same_truth(wanted: &[u64], holds: bool) -> bool
     ensures { result ≡ same_numbers wanted.now (cond holds 1 0 ∷ []) }
 {
-    if holds {
-        return replay::same::same_words(wanted, &[1]);
-    }
-    replay::same::same_words(wanted, &[0])
+    replay::same::same_words(wanted, &[u64::from(holds)])
 }

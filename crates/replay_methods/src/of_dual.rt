@@ -12,7 +12,7 @@ use floats::words;
 fn same_record(wanted: &[u64], x: Dual) -> bool
     ensures { result ≡ same_floats wanted.now (dual_layout.parts x) }
 {
-    replay_matrices::same_floats(wanted, &[x.re, x.eps])
+    replay::same::same_words(wanted, &[x.re, x.eps])
 }
 
 fn same_method(function: u64, x: Dual, y: Dual, a: f64, wanted: &[u64]) -> bool

@@ -12,7 +12,7 @@ use floats::words;
 fn same_record(wanted: &[u64], x: Dual2) -> bool
     ensures { result ≡ same_floats wanted.now (dual2_layout.parts x) }
 {
-    replay_matrices::same_floats(wanted, &[x.re, x.v1, x.v2])
+    replay::same::same_words(wanted, &[x.re, x.v1, x.v2])
 }
 
 fn same_method(function: u64, x: Dual2, y: Dual2, a: f64, wanted: &[u64]) -> bool

@@ -12,7 +12,7 @@ use floats::words;
 fn same_record(wanted: &[u64], x: Dual3) -> bool
     ensures { result ≡ same_floats wanted.now (dual3_layout.parts x) }
 {
-    replay_matrices::same_floats(wanted, &[x.re, x.v1, x.v2, x.v3])
+    replay::same::same_words(wanted, &[x.re, x.v1, x.v2, x.v3])
 }
 
 fn same_method(function: u64, x: Dual3, y: Dual3, a: f64, wanted: &[u64]) -> bool

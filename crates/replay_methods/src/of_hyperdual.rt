@@ -12,7 +12,7 @@ use hyperdual::HyperDual;
 fn same_record(wanted: &[u64], x: HyperDual) -> bool
     ensures { result ≡ same_floats wanted.now (hyper_dual_layout.parts x) }
 {
-    replay_matrices::same_floats(wanted, &[x.re, x.eps1, x.eps2, x.eps1eps2])
+    replay::same::same_words(wanted, &[x.re, x.eps1, x.eps2, x.eps1eps2])
 }
 
 fn same_method(function: u64, x: HyperDual, y: HyperDual, a: f64, wanted: &[u64]) -> bool

@@ -12,7 +12,7 @@ use hyperhyperdual::HyperHyperDual;
 fn same_record(wanted: &[u64], x: HyperHyperDual) -> bool
     ensures { result ≡ same_floats wanted.now (hyper_hyper_dual_layout.parts x) }
 {
-    replay_matrices::same_floats(
+    replay::same::same_words(
         wanted,
         &[
             x.re,
