@@ -24,6 +24,7 @@ fn zeros(out: &mut [u8], at: usize)
 }
 
 // The text of a matrix whose records are `width` floats wide, zeros after it.
+// Kept: `write` and `write_hyperdual`, which docs/PROMISES.md names, in one line each: a const parameter would ask its callers for a `requires` on the width.
 fn write_wide(n: usize, a: &[f64], width: usize, text: &mut [u8]) -> Result<usize, Refusal>
     requires { (0 < width) × (width ≤ largest.width) }
     ensures { answered (outcome result) text.new ≡ write_left width n a.now text.old }
