@@ -1,5 +1,4 @@
 -- Laws that the proofs cite; the public ones serve other crates too.
-pub mod Numbered
 mod Fitting
 pub mod Lent
 mod Entries
