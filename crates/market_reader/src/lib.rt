@@ -40,6 +40,7 @@ pub fn size(text: &[u8]) -> Result<usize, Refusal>
 }
 
 // The matrix in a text, its records `width` floats wide.
+// Kept: `read` and `read_hyperdual`, which docs/PROMISES.md names, in one line each: a const parameter would ask its callers for a `requires` on the width.
 fn read_wide(text: &[u8], width: usize, out: &mut [f64]) -> Result<usize, Refusal>
     requires { (0 < width) × (width ≤ largest.width) }
     ensures { answered (outcome result) out.new ≡ read_left width text.now out.old }

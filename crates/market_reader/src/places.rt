@@ -23,6 +23,7 @@ fn number_at(numbers: &[f64], i: usize) -> f64
 }
 
 // The matrix row by row, from its entries column by column.
+// Kept: counted by row and column, which say where the entry stands: over the records they would be divided out of an index, and read no plainer.
 fn fill(shape: Shape, numbers: &[f64], width: usize, out: &mut [f64])
     requires { Square width shape.n out.old }
     ensures { out.new ≡ matrix_of width (is_symmetric shape.symmetry) shape.n numbers.now }

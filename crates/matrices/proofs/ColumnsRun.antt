@@ -27,13 +27,16 @@ use Rattle.matrices.proofs.RowsOfRecords.{column_by}
 module _ {R : Type 0} {A : Algebra R} {L : Layout R} (Q : Laws A L) where
   -- ---- a column: what the pivot's search left, then the rows below
 
-  module _ (n i : ℕ) (a a' : List Float) (p p' : List ℕ) (swaps : ℕ) (r : Result ℕ NoPivot) (square : Square L.width n a) (h : i < n) (brought : run_after r a' p' ≡ bring_pivot_flat L.width n i a p swaps) where
+  -- w is the width as the code has it
+  module _ (w n i : ℕ) (a a' : List Float) (p p' : List ℕ) (swaps : ℕ) (r : Result ℕ NoPivot) (width : w ≡ L.width) (square : Square L.width n a) (h : i < n)
+      (brought : run_after r a' p' ≡ bring_pivot_flat w n i a p swaps) where
     found : column A n i (going (decode L a) p swaps) ≡ reduce_run A n i (run_after r (decode L a') p')
-    found = column_by L Q.lawful n a square A Q.real Q.agrees i p swaps h r a' p' brought
+    found = column_by L Q.lawful n a square A Q.real Q.agrees i p swaps h r a' p' (brought ∙ ap (λ (k : ℕ). bring_pivot_flat k n i a p swaps) width)
 
-    pub column_stops : (c : NoPivot) → r ≡ Err c → column A n i (going (decode L a) p swaps) ≡ run_after r (decode L a') p'
-    column_stops c t =
-        found ∙ ap (λ (s : Result ℕ NoPivot). reduce_run A n i (run_after s (decode L a') p')) t ∙ sym (ap (λ (s : Result ℕ NoPivot). run_after s (decode L a') p') t)
+    -- s is the answer that hands the refusal on
+    pub column_stops : (e : NoPivot) (s : Result ℕ NoPivot) → r ≡ Err e → s ≡ Err e → column A n i (going (decode L a) p swaps) ≡ run_after s (decode L a') p'
+    column_stops e s t u =
+        found ∙ ap (λ (x : Result ℕ NoPivot). reduce_run A n i (run_after x (decode L a') p')) t ∙ sym (ap (λ (x : Result ℕ NoPivot). run_after x (decode L a') p') u)
 
     pub column_goes : (a'' : List Float) (t : ℕ) → r ≡ Ok t → decode L a'' ≡ reduce A n i (decode L a') → column A n i (going (decode L a) p swaps) ≡ going (decode L a'') p' t
     column_goes a'' t g d = found ∙ ap (λ (s : Result ℕ NoPivot). reduce_run A n i (run_after s (decode L a') p')) g ∙ ap (λ (m : List R). going m p' t) (sym d)
@@ -68,11 +71,11 @@ module _ {R : Type 0} {A : Algebra R} {L : Layout R} (Q : Laws A L) where
     rest = upto_turn i n (column A n) (going (decode L a) order swaps) (going (decode L a') order' t) h (sym (e ∙ ap (λ (s : Result ℕ NoPivot). run_after s (decode L a') order') g)) c.rest;
   }
 
-  pub columns_stop : (n : ℕ) (a₀ a a' : List Float) (order₀ order order' : List ℕ) (swaps i : ℕ) (c : NoPivot) (r : Result ℕ NoPivot) → Columns n a₀ a order₀ order swaps i → i < n
-      → column A n i (going (decode L a) order swaps) ≡ run_after r (decode L a') order' → r ≡ Err c → lu_of A n (decode L a₀) ≡ run_after r (decode L a') order'
-  columns_stop n a₀ a a' order₀ order order' swaps i c r k h e g =
-      let f = ap (λ (s : Result ℕ NoPivot). run_after s (decode L a') order') g in
-      run_stops A n i c.column (going (decode L a) order swaps) h (e ∙ f) k.rest ∙ sym f
+  pub columns_stop : (n : ℕ) (a₀ a a' : List Float) (order₀ order order' : List ℕ) (swaps i : ℕ) (e : NoPivot) (r s : Result ℕ NoPivot) → Columns n a₀ a order₀ order swaps i → i < n
+      → column A n i (going (decode L a) order swaps) ≡ run_after r (decode L a') order' → r ≡ Err e → s ≡ Err e → lu_of A n (decode L a₀) ≡ run_after s (decode L a') order'
+  columns_stop n a₀ a a' order₀ order order' swaps i e r s k h ran g u =
+      let f = λ (x : Result ℕ NoPivot). run_after x (decode L a') order' in
+      run_stops A n i e.column (going (decode L a) order swaps) h (ran ∙ ap f g) k.rest ∙ sym (ap f u)
 
   pub columns_end : (n : ℕ) (a₀ a : List Float) (order₀ order : List ℕ) (swaps i : ℕ) → Columns n a₀ a order₀ order swaps i → n ≤ i → lu_of A n (decode L a₀) ≡ going (decode L a) order swaps
   columns_end n a₀ a order₀ order swaps i c h = sym (upto_end i n (column A n) (going (decode L a) order swaps) h c.rest)

@@ -86,19 +86,35 @@ struct Ran<'a> {
     vectors: &'a [f64],
 }
 
-// Runs a matrix of n by n, in lent floats.
-fn run<'a>(
-    n: usize,
-    a: &[f64],
-    limit: usize,
-    values: &'a mut [f64],
-    vectors: &'a mut [f64],
-) -> Ran<'a> {
-    let answer = jacobi::jacobi_eigenvalue(n, a, limit, values, vectors);
-    Ran {
-        answer,
-        values,
-        vectors,
+// Room for what a run leaves.
+#[derive(Clone, Copy)]
+struct Room {
+    values: [f64; replay_matrices::MOST_IN_ROW],
+    vectors: [f64; replay_matrices::MOST_FLOATS],
+}
+
+impl Room {
+    // Full of what must not stay.
+    fn full_of(x: f64) -> Room {
+        Room {
+            values: [x; replay_matrices::MOST_IN_ROW],
+            vectors: [x; replay_matrices::MOST_FLOATS],
+        }
+    }
+
+    // Runs a matrix of n by n.
+    fn run(&mut self, n: usize, a: &[f64], limit: usize) -> Ran<'_>
+        requires { n ≤ largest.n }
+    {
+        let Room { values, vectors } = self;
+        let values = &mut values[..replay_matrices::floats_in_row(n, 2)];
+        let vectors = &mut vectors[..replay_matrices::floats_in(n, 2)];
+        let answer = jacobi::jacobi_eigenvalue(n, a, limit, values, vectors);
+        Ran {
+            answer,
+            values,
+            vectors,
+        }
     }
 }
 
@@ -130,10 +146,8 @@ fn case(reader: &mut Reader<File>) -> Result<bool, Cut> {
     let mut words = [7u64; replay_matrices::MOST_FLOATS];
     let mut a = [7.0f64; replay_matrices::MOST_FLOATS];
     let mut values = [7u64; replay_matrices::MOST_IN_ROW];
-    let mut first_values = [7.0f64; replay_matrices::MOST_IN_ROW];
-    let mut first_vectors = [7.0f64; replay_matrices::MOST_FLOATS];
-    let mut values_again = [5.0f64; replay_matrices::MOST_IN_ROW];
-    let mut vectors_again = [5.0f64; replay_matrices::MOST_FLOATS];
+    let mut room = Room::full_of(7.0);
+    let mut room_again = Room::full_of(5.0);
     let words = &mut words[..full];
     let a = &mut a[..full];
     let values = &mut values[..row];
@@ -142,21 +156,9 @@ fn case(reader: &mut Reader<File>) -> Result<bool, Cut> {
     let eigenvalues = reader.read_words(16, values);
     let eigenvectors = reader.read_words(16, words);
     matrix.and(eigenvalues).and(eigenvectors)?;
-    let first = run(
-        n,
-        a,
-        head.limit,
-        &mut first_values[..row],
-        &mut first_vectors[..full],
-    );
+    let first = room.run(n, a, head.limit);
     spoil(n, a);
-    let again = run(
-        n,
-        a,
-        head.limit,
-        &mut values_again[..row],
-        &mut vectors_again[..full],
-    );
+    let again = room_again.run(n, a, head.limit);
     let wanted = Recorded {
         sweeps: head.sweeps,
         values,
