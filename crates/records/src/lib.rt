@@ -247,6 +247,7 @@ pub trait Record: Copy {
     }
 
     // The sum of the records of a run, from zero, left to right. A length that is not whole records is refused.
+    // Kept: in `sum` and `product` a record is read by its number, since no iterator over floats gives records; a fold over the numbers with the operation is no plainer.
     final fn sum(floats: &[f64]) -> Result<Self, Refusal>
         ensures { outcome result ≡ sum_of layout algebra floats.now }
     {
