@@ -3,8 +3,8 @@
 
 #![tactic(auto)]
 
+pub mod cells;
 mod choose;
-pub mod matrix;
 mod pair;
 mod turn;
 pub mod work;
