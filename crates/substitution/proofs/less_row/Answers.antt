@@ -21,4 +21,4 @@ pub less_product-r-requires : goal.less_product-r-requires
 less_product-r-requires g c =
     let s = c.requires in
     let h : c.loop-k.k < c.args.n = omega arith in
-    record { p_held = row_held g.met.R.Record.laws _ _ _ _ _ s.row_place refl h; q_held = strided_held g.met.R.Record.laws _ _ _ _ _ s.strided h }
+    record { p_held = row_held g.met.R.Record.laws _ _ _ _ _ s.row_place refl h; q_held = strided_held g.met.R.Record.laws _ _ _ _ _ _ s.strided h c.at.ensures }
