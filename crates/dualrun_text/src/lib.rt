@@ -64,8 +64,8 @@ fn answer(page: &mut Writer, text: &[u8])
     ensures { Puts page.old page.new (output_of text.now) }
 {
     match read::request(text) {
-        Some(Request::Lu { n, start }) => lu::command(page, text, n, start),
-        Some(Request::Eig { n, limit, start }) => eig::command(page, text, n, limit, start),
+        Some(Request::Lu { n, start }) => lu::command(page, &text[start..], n),
+        Some(Request::Eig { n, limit, start }) => eig::command(page, &text[start..], n, limit),
         None => write::refusal(page, Refusal::Unreadable),
     }
 }
