@@ -14,17 +14,17 @@ use Rattle.dualrun_text.proofs.answer.Goals as goal
 after : (text : List ℕ) (start : ℕ) → take (length text - start) (drop start text) ≡ drop start text
 after text start = take_all (length text - start) (drop start text) (omega (arith, length-drop start text))
 
-pub slice_bounds-command-count : goal.slice_bounds-command-count
-slice_bounds-command-count c = search (rules, lu_start)
+pub slice_bounds-run-count : goal.slice_bounds-run-count
+slice_bounds-run-count c = search (rules, lu_start)
 
-pub slice_bounds-command-start : goal.slice_bounds-command-start
-slice_bounds-command-start c = search (rules, lu_start)
+pub slice_bounds-run-start : goal.slice_bounds-run-start
+slice_bounds-run-start c = search (rules, lu_start)
 
-pub slice_bounds-command-count-in-Some-Eig : goal.slice_bounds-command-count-in-Some-Eig
-slice_bounds-command-count-in-Some-Eig c = search (rules, eig_start)
+pub slice_bounds-run-count-in-Some-Eig : goal.slice_bounds-run-count-in-Some-Eig
+slice_bounds-run-count-in-Some-Eig c = search (rules, eig_start)
 
-pub slice_bounds-command-start-in-Some-Eig : goal.slice_bounds-command-start-in-Some-Eig
-slice_bounds-command-start-in-Some-Eig c = search (rules, eig_start)
+pub slice_bounds-run-start-in-Some-Eig : goal.slice_bounds-run-start-in-Some-Eig
+slice_bounds-run-start-in-Some-Eig c = search (rules, eig_start)
 
 pub returns-in-Some-Lu : goal.returns-in-Some-Lu
 returns-in-Some-Lu c =
@@ -33,7 +33,7 @@ returns-in-Some-Lu c =
     let start = c.in-Some-Lu.start in
     let is : c.request.result ≡ Some (Lu n start) = c.in-Some-Lu.is ∙ ap (λ (r : Request). Some r) c.in-Some-Lu.field-0-is in
     answered _ _ _ _ (Some (Lu n start)) c.request.ensures is
-    (puts_as c.command.ensures (ap (λ (t : List ℕ). lu_output t n 0) (after text start) ∙ lu_moved text start (lu_start text c.request.result n start is c.request.ensures) n))
+    (puts_as c.run.ensures (ap (λ (t : List ℕ). lu_output t n 0) (after text start) ∙ lu_moved text start (lu_start text c.request.result n start is c.request.ensures) n))
 
 pub returns-in-Some-Eig : goal.returns-in-Some-Eig
 returns-in-Some-Eig c =
@@ -43,7 +43,7 @@ returns-in-Some-Eig c =
     let start = c.in-Some-Eig.start in
     let is : c.request.result ≡ Some (Eig n limit start) = c.in-Some-Eig.is ∙ ap (λ (r : Request). Some r) c.in-Some-Eig.field-0-is in
     answered _ _ _ _ (Some (Eig n limit start)) c.request.ensures is
-    (puts_as c.command-in-Some-Eig.ensures (ap (λ (t : List ℕ). eig_output t n limit 0) (after text start) ∙ eig_moved text start (eig_start text c.request.result n limit start is c.request.ensures) n limit))
+    (puts_as c.run-in-Some-Eig.ensures (ap (λ (t : List ℕ). eig_output t n limit 0) (after text start) ∙ eig_moved text start (eig_start text c.request.result n limit start is c.request.ensures) n limit))
 
 pub returns-in-None : goal.returns-in-None
 returns-in-None c = answered _ _ _ _ None c.request.ensures c.in-None.is c.refusal.ensures

@@ -8,23 +8,30 @@ ghost use Rattle.texts.specs.Page.{Puts};
 ghost use Rattle.dualrun_text.specs.Output.{lu_lines, lu_of_lines, lu_in_room, lu_output};
 
 use super::{read, write};
-use dual_lu::LuAnswer;
+use dual::Dual;
+use lu::LuRefusal;
 use refusals::Refusal;
 use texts::write::Writer;
 
 // What is printed of an answer: the swaps, the order and the factors, or the number of a refusal and its column.
-fn lines(page: &mut Writer, n: usize, answer: LuAnswer, factors: &[f64], order: &[usize])
+fn lines(
+    page: &mut Writer,
+    n: usize,
+    answer: Result<usize, LuRefusal>,
+    factors: &[f64],
+    order: &[usize],
+)
     requires { Fits n × (length factors.now ≡ n * n * 2) × (length order.now ≡ n) }
     ensures { Puts page.old page.new (lu_lines n (lu_outcome answer) (lu_column answer) factors.now order.now) }
 {
-    let LuAnswer::Done { swaps } = answer else {
-        let number = answer.number() as usize;
-        let column = answer.column();
-        return write::pair(page, number, column);
-    };
-    write::pair(page, 0, swaps);
-    write::order(page, order);
-    write::records(page, factors);
+    match answer {
+        Ok(swaps) => {
+            write::pair(page, 0, swaps);
+            write::order(page, order);
+            write::records(page, factors);
+        }
+        Err(refusal) => write::pair(page, refusal.number() as usize, refusal.column()),
+    }
 }
 
 // The matrix read from its lines, the text after the first one, factored and printed.
@@ -42,7 +49,7 @@ fn of_lines(
     if let Err(refusal) = read::body(rest, matrix) {
         return write::refusal(page, refusal);
     }
-    let answer = dual_lu::lu(n, matrix, factors, order);
+    let answer = lu::lu::<Dual>(n, matrix, factors, order);
     lines(page, n, answer, factors, order);
 }
 
@@ -76,7 +83,7 @@ pub(crate) fn line_refusal(n: usize) -> Result<(), Refusal>
 }
 
 // The command: 1 is decided from the first line.
-pub(crate) fn command(page: &mut Writer, rest: &[u8], n: usize)
+pub(crate) fn run(page: &mut Writer, rest: &[u8], n: usize)
     ensures { Puts page.old page.new (lu_output rest.now n 0) }
 {
     if let Err(refusal) = line_refusal(n) {

@@ -1,28 +1,35 @@
 // `eig N S`: the matrix read, its eigenvalues and vectors printed.
 ghost use Rattle.std.specs.Prelude.{◌≡◌, ◌*◌, ◌≤◌, length};
 ghost use Rattle.refusals.specs.Refused.{answer_number};
-ghost use Rattle.jacobi.specs.Answer.{outcome};
+ghost use Rattle.algebra.specs.Outcome.{outcome};
 ghost use Rattle.dualrun_text.specs.Request.{eig_line_refusal};
 ghost use Rattle.dualrun_text.specs.Body.{Fits};
 ghost use Rattle.texts.specs.Page.{Puts};
 ghost use Rattle.dualrun_text.specs.Output.{eig_lines, eig_of_lines, eig_in_room, eig_output};
 
 use super::{read, write};
-use jacobi::JacobiAnswer;
 use refusals::Refusal;
 use texts::write::Writer;
 
 // What is printed of an answer: the sweeps, the eigenvalues and the vectors, or the number of a refusal and 0.
-fn lines(page: &mut Writer, n: usize, answer: JacobiAnswer, values: &[f64], vectors: &[f64])
+fn lines(
+    page: &mut Writer,
+    n: usize,
+    answer: Result<usize, Refusal>,
+    values: &[f64],
+    vectors: &[f64],
+)
     requires { Fits n × (length values.now ≡ n * 2) × (length vectors.now ≡ n * n * 2) }
     ensures { Puts page.old page.new (eig_lines n (outcome answer) values.now vectors.now) }
 {
-    let JacobiAnswer::Done { sweeps } = answer else {
-        return write::pair(page, answer.number() as usize, 0);
-    };
-    write::pair(page, 0, sweeps);
-    write::records(page, values);
-    write::records(page, vectors);
+    match answer {
+        Ok(sweeps) => {
+            write::pair(page, 0, sweeps);
+            write::records(page, values);
+            write::records(page, vectors);
+        }
+        Err(refusal) => write::pair(page, refusal.number() as usize, 0),
+    }
 }
 
 // The matrix read from its lines, the text after the first one, its eigenvalues and vectors found and printed.
@@ -83,7 +90,7 @@ pub(crate) fn line_refusal(n: usize, limit: usize) -> Result<(), Refusal>
 }
 
 // The command: 1, 3 and 4 are decided from the first line.
-pub(crate) fn command(page: &mut Writer, rest: &[u8], n: usize, limit: usize)
+pub(crate) fn run(page: &mut Writer, rest: &[u8], n: usize, limit: usize)
     ensures { Puts page.old page.new (eig_output rest.now n limit 0) }
 {
     if let Err(refusal) = line_refusal(n, limit) {
