@@ -1,5 +1,5 @@
 -- One record of flat floats, read and stored by its place, over any record and layout. Assumes nothing.
-use Prim.Native.Nat.{ℕ, zero, suc, ◌+◌, ◌-◌, ◌*◌, ◌/◌, ◌≤◌, ◌<◌}
+use Prim.Native.Nat.{ℕ, zero, suc, ◌+◌, ◌-◌, ◌*◌, ◌≤◌, ◌<◌}
 use mathlib.Core.Path.{◌≡◌, refl, ap, sym, ◌∙◌}
 use mathlib.Core.List.{List, [], ◌∷◌}
 use native.Mathlib.Omega.{arith}
@@ -70,17 +70,9 @@ module _ {R : Type 0} {A : Algebra R} {L : Layout R} (Q : Laws A L) where
       let first : p * L.width + 0 ≡ p * L.width = omega arith in
       ap (decode L) (stores_sets (L.parts x) l (p * L.width) 0 ∙ ap (λ (k : ℕ). sets l k (L.parts x)) first) ∙ write_at l p x h
 
-  -- a record that is held is one of those that the floats have room for
-  pub held_count : (l : List Float) (p : ℕ) → p < length (decode L l) → p < length l / L.width
-  held_count l p h = omega (arith, decode_length L Q.lawful l)
-
-  -- the floats of a record that is held are there
-  pub place_inside : (l : List Float) (p : ℕ) → p < length (decode L l) → p * L.width + L.width ≤ length l
-  place_inside l p h = record_inside L Q.lawful l p (omega (arith, decode_length L Q.lawful l))
-
-  -- its last float is there
+  -- the last float of a record that is held is there
   pub last_inside : (l : List Float) (p : ℕ) → p < length (decode L l) → p * L.width + (L.width - 1) < length l
-  last_inside l p h = let z = Q.lawful.positive in omega (arith, place_inside l p h)
+  last_inside l p h = let z = Q.lawful.positive in omega (arith, record_inside L Q.lawful l p (omega (arith, decode_length L Q.lawful l)))
 
   -- a reader and a writer of a record that is held
   pub read_held : (l : List Float) (p : ℕ) (e : Float) → p < length (decode L l) → L.make (λ i. get_or l (onward (p * L.width) i) e) ≡ get_or (decode L l) p (zero_of A)

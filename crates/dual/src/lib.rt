@@ -1,5 +1,5 @@
-// Dual numbers for first derivatives: datatypes/dual.rs. Here are the rules of the record, its layout in flat floats and its comparisons; what every record type
-// has stands in the trait `Record`.
+// Dual numbers for first derivatives: datatypes/dual.rs. The rules of the record, its layout in flat floats
+// and its comparisons; what every record type has stands in the trait `Record`.
 
 #![tactic(auto)]
 
@@ -66,7 +66,7 @@ impl Record for Dual {
     }
 
     fn with_re(self, re: f64) -> Self {
-        Self { re, eps: self.eps }
+        Self { re, ..self }
     }
 
     fn with_derivative(self, which: Derivative) -> Result<Self, Refusal> {
