@@ -3,7 +3,6 @@ use Prim.Native.Nat.{ℕ, ◌+◌, ◌*◌, ◌≤◌, ◌<◌}
 use mathlib.Core.Path.{◌≡◌, refl, ap, sym, ◌∙◌}
 use mathlib.Core.Bool.{Bool, true, false, cond}
 use mathlib.Core.List.{List}
-use native.Mathlib.Nat.{mul-le-mul_right}
 use native.Mathlib.Omega.{arith}
 use lib.Dec.{T}
 use lib.ListN.{length, replicate}
@@ -21,7 +20,7 @@ use Rattle.dual.specs.Rules.{dual_algebra}
 use Rattle.matrices.specs.Matrix.{cell}
 use Rattle.rotations.specs.declared.work.Work as lent
 use Rattle.rotations.specs.Vector.{Vector}
-use Rattle.rotations.specs.Buffers.{many_rotations, work_of, SameWork}
+use Rattle.rotations.specs.Buffers.{work_of, SameWork}
 use Rattle.rotations.proofs.Same.{same_work}
 use Rattle.rotations.specs.Rotation.{Work, work}
 use Rattle.jacobi.specs.Answer.{eigen_of, run_of, run_after}
@@ -63,10 +62,6 @@ module _ (f : ℕ → Work Dual → Work Dual) (lo each : ℕ) (first w : lent.W
 
   pub work_end : first.n ≤ i → work_of w ≡ whole
   work_end h = upto_end i first.n f (work_of w) h s.rest
-
-  -- the rotations so far
-  pub work_few : w.rotations ≤ first.rotations + each * largest.n
-  work_few = let m : i * each ≤ largest.n * each = mul-le-mul_right each (omega (arith, s.within, first.matrix.small)) in omega (arith, s.few)
 
 -- ---- a sweep by its two cases
 
@@ -130,7 +125,3 @@ module _ (limit : ℕ) (first w : lent.Work) (bw : List Float) (whole : Run Dual
   sweeps_end h =
       ap (λ (k : ℕ). eigen_of w (record { sweeps = k; stopped = false })) (let m = s.within in omega arith)
       ∙ ap ended (upto_end it-num limit (step dual_algebra first.n) (run_of w bw it-num) h s.rest)
-
-  -- the rotations so far
-  pub sweeps_few : it-num < limit → limit ≤ largest.limit → w.rotations + largest.n * largest.n < many_rotations
-  sweeps_few h k = omega (arith, s.few)

@@ -1,4 +1,5 @@
 // What a run starts from.
+// Kept: the loops run over the numbers of the diagonal, by which `Record` reads and writes in flat floats.
 ghost use Rattle.std.specs.Prelude.{◌≡◌};
 ghost use Rattle.algebra.specs.Loop.{upto};
 ghost use Rattle.dual.specs.Rules.{dual_algebra, dual_records};

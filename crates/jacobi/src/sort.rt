@@ -1,4 +1,5 @@
 // The values in order of their real parts, their vectors' columns with them.
+// Kept: the loops run over the numbers of columns and of rows, by which values and vectors are read and exchanged in flat floats.
 ghost use Rattle.std.specs.Prelude.{◌≡◌, ◌<◌};
 ghost use Rattle.dual.specs.Rules.{dual_algebra, dual_records};
 ghost use Rattle.matrices.specs.Matrix.{Square};

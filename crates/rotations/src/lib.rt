@@ -26,3 +26,11 @@ pub struct Angle {
     pub tau: Dual,
     pub h: Dual,
 }
+
+// An entry x above the diagonal, between the diagonal entries dp of its row and dq of its column.
+#[derive(Clone, Copy, Debug)]
+pub(crate) struct Block {
+    pub x: Dual,
+    pub dp: Dual,
+    pub dq: Dual,
+}

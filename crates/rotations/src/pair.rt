@@ -7,7 +7,7 @@ ghost use Rattle.rotations.specs.Buffers.{many_rotations, angle_parts, SameWork,
 
 use super::cells::{get, put};
 use super::work::Work;
-use super::{Angle, Choice, choose};
+use super::{Angle, Block, Choice};
 use dual::Dual;
 use records::Record;
 
@@ -51,13 +51,15 @@ impl<'a> Work<'a> {
         ensures work_after { work_of self.new ≡ rule.pair dual_algebra self.old.n thresh it_num p q (work_of self.old) }
         ensures few { self.new.rotations ≤ self.old.rotations + 1 }
     {
-        let x = self.entry(p, q);
-        let dp = self.value(p);
-        let dq = self.value(q);
-        match choose::choose(thresh, it_num, x, dp, dq) {
+        let block = Block {
+            x: self.entry(p, q),
+            dp: self.value(p),
+            dq: self.value(q),
+        };
+        match block.choice(thresh, it_num) {
             Choice::Keep => {}
             Choice::Clear => put(self.n, self.a, p, q, Dual::zero()),
-            Choice::Rotate => self.rotate(p, q, choose::angle(x, dp, dq)),
+            Choice::Rotate => self.rotate(p, q, block.angle()),
         }
     }
 }

@@ -1,7 +1,7 @@
 -- Lines that are not as they should be are unreadable; the floats of good ones go to the entry.
 use Rattle.std.proofs.Common.{◌≡◌, ◌*◌, length, rules}
 use Rattle.dualrun_text.proofs.Commands.{lu_unread, lu_read}
-use Rattle.dualrun_text.proofs.lu.of_lines.Goals as goal
+use Rattle.dualrun_text.proofs.lu_command.of_lines.Goals as goal
 
 pub returns-in-Err : goal.returns-in-Err
 returns-in-Err c =
