@@ -9,7 +9,7 @@ use lib.Ieee.{Float}
 use Rattle.real.specs.Operations as float
 use Rattle.algebra.specs.Algebra.{Algebra, zero_of}
 use Rattle.algebra.specs.Flat.{Layout, decode, encode}
-use Rattle.algebra.proofs.Flat.{decode_length, decode_size, record_there, decode_at, decode_store, encode_decode}
+use Rattle.algebra.proofs.Flat.{decode_length, decode_size, record_there, record_inside, decode_at, decode_store, encode_decode}
 use Rattle.algebra.proofs.Inside.{get_or-inside}
 use Rattle.algebra.proofs.Laws.{Laws}
 
@@ -69,3 +69,14 @@ module _ {R : Type 0} {A : Algebra R} {L : Layout R} (Q : Laws A L) where
   write_record l p x h =
       let first : p * L.width + 0 ≡ p * L.width = omega arith in
       ap (decode L) (stores_sets (L.parts x) l (p * L.width) 0 ∙ ap (λ (k : ℕ). sets l k (L.parts x)) first) ∙ write_at l p x h
+
+  -- the last float of a record that is held is there
+  pub last_inside : (l : List Float) (p : ℕ) → p < length (decode L l) → p * L.width + (L.width - 1) < length l
+  last_inside l p h = let z = Q.lawful.positive in omega (arith, record_inside L Q.lawful l p (omega (arith, decode_length L Q.lawful l)))
+
+  -- a reader and a writer of a record that is held
+  pub read_held : (l : List Float) (p : ℕ) (e : Float) → p < length (decode L l) → L.make (λ i. get_or l (onward (p * L.width) i) e) ≡ get_or (decode L l) p (zero_of A)
+  read_held l p e h = read_record l p e (last_inside l p h)
+
+  pub write_held : (l : List Float) (p : ℕ) (x : R) → p < length (decode L l) → decode L (stores l (p * L.width) 0 (L.parts x)) ≡ set (decode L l) p x
+  write_held l p x h = write_record l p x (last_inside l p h)

@@ -26,6 +26,10 @@ module _ {R : Type 0} where
   tabulate_at f (suc d) k zero x h = ap f (omega arith)
   tabulate_at f (suc d) k (suc j) x h = tabulate_at f d (suc k) j x (omega arith) ∙ ap f (omega arith)
 
+-- a table of floats from place 0 on, as a layout's law asks
+pub tabulate_from : (f : ℕ → Float) (d j : ℕ) → j < d → get_or (tabulate f d 0) j float.zero ≡ f j
+tabulate_from f d j h = tabulate_at f d 0 j float.zero h ∙ ap f (omega arith)
+
 pub tabulate_map : {R S : Type 0} (h : R → S) (f : ℕ → R) (g : ℕ → S) → ((j : ℕ) → h (f j) ≡ g j) → (d k : ℕ) → map h (tabulate f d k) ≡ tabulate g d k
 unfolding tabulate
 tabulate_map h f g e zero k = refl

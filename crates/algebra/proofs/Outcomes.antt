@@ -1,10 +1,10 @@
 -- An answer is known by its outcome, and its number is the outcome's: a refusal is known by its number. Assumes nothing.
 use mathlib.Core.Path.{◌≡◌, refl, ap}
 use Rattle.std.specs.Prelude.{Result, Ok, Err}
-use Rattle.refusals.specs.Refused.{number, answer_number}
+use Rattle.refusals.specs.Refused.{answer_number}
 use Rattle.refusals.specs.declared.Refusal.{Refusal}
 use Rattle.refusals.proofs.Numbers.{number_one}
-use Rattle.algebra.specs.Outcome.{Outcome, value, refused, number_of, outcome}
+use Rattle.algebra.specs.Outcome.{number_of, outcome}
 
 module _ {R : Type 0} where
   -- two answers of one outcome are one

@@ -1,7 +1,7 @@
 -- Records of lent words, through the record's own reader and writer: laws over any record. Assumes nothing.
 use Prim.Native.Nat.{ℕ, ◌+◌, ◌*◌, ◌≤◌, ◌<◌}
 use mathlib.Core.Path.{◌≡◌, refl, sym, ap, ◌∙◌}
-use mathlib.Core.List.{List, [], ◌∷◌, ◌++◌, append-nil}
+use mathlib.Core.List.{List, [], ◌∷◌, append-nil}
 use native.Mathlib.Omega.{arith}
 use lib.ListN.{length, get_or, set}
 use lib.Ieee.{Float}
@@ -29,18 +29,12 @@ module _ {R : Type 0} {A : Algebra R} {L : Layout R} (Q : Laws A L) (words : Lis
       e ∙ sym (read_at Q l p float.zero (omega arith))
       ∙ Q.lawful.reads (λ i. get_or l (p * L.width + i) float.zero) (λ i. get_or (floats_of words) (p * L.width + i) float.zero) (as_read p h)
 
--- Records that the record's writer stored one after the other, and no float more: their parts.
+-- A record that the record's writer stored, and no float more: its parts.
 module _ {R : Type 0} {A : Algebra R} {L : Layout R} (Q : Laws A L) (l : List Float) where
   the_one : (m : List R) (x : R) → length (set m 0 x) ≡ 1 → set m 0 x ≡ x ∷ []
   the_one [] x h = absurd (omega arith)
   the_one (a ∷ []) x h = refl
   the_one (a ∷ b ∷ m) x h = absurd (omega arith)
-
-  the_two : (m : List R) (x y : R) → length (set (set m 0 x) 1 y) ≡ 2 → set (set m 0 x) 1 y ≡ x ∷ y ∷ []
-  the_two [] x y h = absurd (omega arith)
-  the_two (a ∷ []) x y h = absurd (omega arith)
-  the_two (a ∷ b ∷ []) x y h = refl
-  the_two (a ∷ b ∷ c ∷ m) x y h = absurd (omega arith)
 
   pub one_written : (m : List R) (x : R) → length l ≡ L.width → decode L l ≡ set m 0 x → l ≡ L.parts x
   unfolding encode
@@ -48,11 +42,3 @@ module _ {R : Type 0} {A : Algebra R} {L : Layout R} (Q : Laws A L) (l : List Fl
       let whole : length l ≡ 1 * L.width = omega arith in
       let held = sym (ap length e) ∙ holds Q l 1 whole in
       parts_of Q l 1 (x ∷ []) whole (e ∙ the_one m x held) ∙ append-nil (L.parts x)
-
-  pub two_written : (m k : List R) (x y : R) → length l ≡ L.width + L.width → k ≡ set m 0 x → decode L l ≡ set k 1 y → l ≡ L.parts x ++ L.parts y
-  unfolding encode
-  two_written m k x y size first e =
-      let whole : length l ≡ 2 * L.width = omega arith in
-      let stored = e ∙ ap (λ (r : List R). set r 1 y) first in
-      let held = sym (ap length stored) ∙ holds Q l 2 whole in
-      parts_of Q l 2 (x ∷ y ∷ []) whole (stored ∙ the_two m x y held) ∙ ap (λ (r : List Float). L.parts x ++ r) (append-nil (L.parts y))

@@ -1,6 +1,6 @@
--- Laws that the proofs cite; those of the crates of the records are public.
-pub mod Numbered
-pub mod Arms
-pub mod Fitting
+-- Laws that the proofs cite; the public ones serve other crates too.
+mod Fitting
 pub mod Lent
-pub mod Entries
+mod Entries
+-- this crate's promises leave one outcome each
+mod OneAnswer

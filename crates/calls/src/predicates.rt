@@ -4,26 +4,25 @@ ghost use Rattle.calls.specs.Called.{holds, truth};
 
 use crate::Predicate;
 
-// 1.0 for what holds, else 0.0.
-fn one_where(holds: bool) -> f64
-    ensures { result ≡ truth holds }
+fn holds(predicate: Predicate, a: f64, b: f64) -> bool
+    ensures { result ≡ holds predicate a b }
 {
-    if holds { 1.0 } else { 0.0 }
+    match predicate {
+        Predicate::Eq => a == b,
+        Predicate::Lt => a < b,
+        Predicate::Le => a <= b,
+        Predicate::Gt => a > b,
+        Predicate::Ge => a >= b,
+        Predicate::IsNegative => real::is_negative(a),
+        Predicate::IsPositive => !real::is_negative(a),
+        Predicate::IsZero => a == 0.0,
+        Predicate::IsOne => a == 1.0,
+    }
 }
 
 // 1.0 where the predicate holds of the real parts a and b, else 0.0.
 pub fn truth(predicate: Predicate, a: f64, b: f64) -> f64
     ensures { result ≡ truth (holds predicate a b) }
 {
-    match predicate {
-        Predicate::Eq => one_where(a == b),
-        Predicate::Lt => one_where(a < b),
-        Predicate::Le => one_where(a <= b),
-        Predicate::Gt => one_where(a > b),
-        Predicate::Ge => one_where(a >= b),
-        Predicate::IsNegative => one_where(real::is_negative(a)),
-        Predicate::IsPositive => one_where(!real::is_negative(a)),
-        Predicate::IsZero => one_where(a == 0.0),
-        Predicate::IsOne => one_where(a == 1.0),
-    }
+    if holds(predicate, a, b) { 1.0 } else { 0.0 }
 }

@@ -5,6 +5,8 @@ use mathlib.Core.Bool.{Bool, true, false}
 use lib.Dec.{eqb}
 use lib.Ieee.{Float}
 use Rattle.refusals.specs.Number as refusal
+use Rattle.refusals.specs.Refused.{number}
+use Rattle.refusals.specs.declared.Refusal.{Refusal}
 use Rattle.real.specs.Operations.{three}
 use Rattle.algebra.specs.Algebra.{Algebra, one_of}
 use Rattle.algebra.specs.Outcome.{value, refused}
@@ -16,8 +18,8 @@ use Rattle.derivatives.specs.Plan.{is_small}
 use Rattle.derivatives.specs.Apply.{chain_by, small_j0, small_j2, bessel_j1, bessel_j2, cubic_j1, sph_j1_series_of, run_plan}
 
 module _ {R : Type 0} (A : Algebra R) (nderiv : ℕ) (x : R) (p : Plan) where
-  pub arm_refused : (n : ℕ) → p ≡ Refused n → refused n ≡ run_plan A nderiv x p
-  arm_refused n told = rw told
+  pub arm_refused : (e : Refusal) → p ≡ Refused e → refused (number e) ≡ run_plan A nderiv x p
+  arm_refused e told = rw told
 
   pub arm_one : p ≡ One → value (one_of A) ≡ run_plan A nderiv x p
   arm_one told = rw told

@@ -11,7 +11,7 @@ use mir.Syntax.{w32}
 use mir.Val.{SFits, of_z, to_z}
 use mir.ValLaws.{to_z-of_z}
 use Rattle.refusals.specs.Largest as largest
-use Rattle.refusals.specs.Number.{exponent_too_large}
+use Rattle.refusals.specs.declared.Refusal.TheVariants.{ExponentTooLarge}
 use Rattle.derivatives.specs.declared.Series.{Series}
 use Rattle.derivatives.specs.declared.Plan.TheVariants.{Refused, One, Same, Square, Chain}
 use Rattle.derivatives.specs.Series.{powi_series}
@@ -42,10 +42,10 @@ abbrev held : ℤ → ℤ
 held e = to_z w32 (of_z w32 e)
 
 module _ (re : Float) (e : ℤ) (pow3 : Float) (fits : SFits w32 e) where
-  pub powi_below : lt_z (held e) largest.least_exponent ≡ true → Refused exponent_too_large ≡ plan_powi re e pow3
+  pub powi_below : lt_z (held e) largest.least_exponent ≡ true → Refused ExponentTooLarge ≡ plan_powi re e pow3
   powi_below h = rw (rw (to_z-of_z w32 e fits) at h)
 
-  pub powi_above : lt_z (held e) largest.least_exponent ≡ false → lt_z largest.exponent (held e) ≡ true → Refused exponent_too_large ≡ plan_powi re e pow3
+  pub powi_above : lt_z (held e) largest.least_exponent ≡ false → lt_z largest.exponent (held e) ≡ true → Refused ExponentTooLarge ≡ plan_powi re e pow3
   powi_above h k = rw (rw (to_z-of_z w32 e fits) at h, rw (to_z-of_z w32 e fits) at k)
 
   pub powi_one : of_z w32 e ≡ 0 → One ≡ plan_powi re e pow3

@@ -2,6 +2,7 @@
 use Rattle.std.specs.Prelude.{ℕ, cond, eqb, Float}
 use Rattle.std.specs.Float.Ieee.{lt, eq}
 use Rattle.refusals.specs.Number as refusal
+use Rattle.refusals.specs.Refused.{number}
 use Rattle.real.specs.Operations.{zero, three, six, fifteen, thirty}
 use Rattle.real.specs.Sign.{sign_of}
 use Rattle.algebra.specs.Algebra.{Algebra, zero_of, one_of}
@@ -46,7 +47,7 @@ module _ {R : Type 0} (A : Algebra R) where
 
   -- the outcome of a plan, for a record that carries `nderiv` derivatives; sph_j1_series is refused 2 where it carries no third one
   abbrev pub run_plan : ℕ → R → Plan → Outcome R
-  run_plan nderiv x (Refused n) = refused n
+  run_plan nderiv x (Refused e) = refused (number e)
   run_plan nderiv x One = value (one_of A)
   run_plan nderiv x Same = value x
   run_plan nderiv x Square = value (A.mul x x)

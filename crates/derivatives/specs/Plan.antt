@@ -3,7 +3,7 @@ use Rattle.std.specs.Prelude.{Bool, false, cond, eqb, Float, ℤ, pos, negsuc}
 use Rattle.std.specs.Float.Ieee.{lt, eq}
 use Rattle.std.specs.Int.Signed.{lt_z}
 use Rattle.refusals.specs.Largest as largest
-use Rattle.refusals.specs.Number as refusal
+use Rattle.refusals.specs.declared.Refusal.TheVariants.{ExponentTooLarge}
 use Rattle.real.specs.Operations.{◌⊖◌, zero, one, epsilon}
 use Rattle.real.specs.Sign.{abs_of}
 use Rattle.derivatives.specs.declared.Function.{Function}
@@ -22,8 +22,8 @@ eq_z (negsuc a) (negsuc b) = eqb a b
 -- an exponent below -1024 or above 1024 is refused 5 (the port's own); 0 gives one, 1 the input, 2 the square
 abbrev pub plan_powi : Float → ℤ → Float → Plan
 plan_powi re exp pow3 =
-    cond (lt_z exp largest.least_exponent) (Refused refusal.exponent_too_large)
-    (cond (lt_z largest.exponent exp) (Refused refusal.exponent_too_large)
+    cond (lt_z exp largest.least_exponent) (Refused ExponentTooLarge)
+    (cond (lt_z largest.exponent exp) (Refused ExponentTooLarge)
     (cond (eq_z exp (pos 0)) One
     (cond (eq_z exp (pos 1)) Same
     (cond (eq_z exp (pos 2)) Square

@@ -8,6 +8,8 @@ ghost use Rattle.refusals.specs.Largest as largest;
 ghost use Rattle.derivatives.specs.Plan.{plan_of, plan_powi, plan_powf, is_small, small};
 ghost use Rattle.derivatives.specs.Series.{recip_series, powi_series, powf_series, sqrt_series, cbrt_series, exp_series, exp2_series, exp_m1_series, logarithm_series, ln_series, log_series, log2_series, log10_series, ln1p_series, sin_series, cos_series, asin_series, acos_series, atan_series, sinh_series, cosh_series, asinh_series, acosh_series, atanh_series};
 
+use refusals::Refusal;
+
 const THIRD: f64 = 1.0 / 3.0;
 
 const LN_2: f64 = 0.6931471805599453;
@@ -64,8 +66,8 @@ pub enum Function {
 // What a record x does for a request.
 #[derive(Clone, Copy)]
 pub enum Plan {
-    // the number that it is refused by
-    Refused(u32),
+    // what it is refused for
+    Refused(Refusal),
     // one, x itself, or x * x
     One,
     Same,
@@ -87,6 +89,7 @@ pub enum Plan {
 }
 
 impl Series {
+    #[tactic(auto, unfolding(crate::specs::Series::recip_series))]
     pub fn recip(re: f64) -> Series
         ensures { result ≡ recip_series re }
     {
@@ -110,6 +113,7 @@ impl Series {
         Series { f0, f1, f2, f3 }
     }
 
+    #[tactic(auto, unfolding(crate::specs::Series::powf_series))]
     pub fn powf(re: f64, n: f64, pow3: f64) -> Series
         ensures { result ≡ powf_series re n pow3 }
     {
@@ -122,6 +126,7 @@ impl Series {
         Series { f0, f1, f2, f3 }
     }
 
+    #[tactic(auto, unfolding(crate::specs::Series::sqrt_series))]
     pub fn sqrt(re: f64) -> Series
         ensures { result ≡ sqrt_series re }
     {
@@ -134,6 +139,7 @@ impl Series {
         Series { f0, f1, f2, f3 }
     }
 
+    #[tactic(auto, unfolding(crate::specs::Series::cbrt_series))]
     pub fn cbrt(re: f64, cbrt: f64) -> Series
         ensures { result ≡ cbrt_series re cbrt }
     {
@@ -145,6 +151,7 @@ impl Series {
         Series { f0, f1, f2, f3 }
     }
 
+    #[tactic(auto, unfolding(crate::specs::Series::exp_series))]
     pub fn exp(exp: f64) -> Series
         ensures { result ≡ exp_series exp }
     {
@@ -156,6 +163,7 @@ impl Series {
         }
     }
 
+    #[tactic(auto, unfolding(crate::specs::Series::exp2_series))]
     pub fn exp2(exp2: f64) -> Series
         ensures { result ≡ exp2_series exp2 }
     {
@@ -166,6 +174,7 @@ impl Series {
         Series { f0, f1, f2, f3 }
     }
 
+    #[tactic(auto, unfolding(crate::specs::Series::exp_m1_series))]
     pub fn exp_m1(exp_m1: f64, exp: f64) -> Series
         ensures { result ≡ exp_m1_series exp_m1 exp }
     {
@@ -186,6 +195,7 @@ impl Series {
         Series { f0, f1, f2, f3 }
     }
 
+    #[tactic(auto, unfolding(crate::specs::Series::ln_series))]
     pub fn ln(re: f64, ln: f64) -> Series
         ensures { result ≡ ln_series re ln }
     {
@@ -193,6 +203,7 @@ impl Series {
         Series::logarithm(rec, ln, rec)
     }
 
+    #[tactic(auto, unfolding(crate::specs::Series::log_series))]
     pub fn log(re: f64, log: f64, ln_base: f64) -> Series
         ensures { result ≡ log_series re log ln_base }
     {
@@ -200,6 +211,7 @@ impl Series {
         Series::logarithm(rec, log, rec / ln_base)
     }
 
+    #[tactic(auto, unfolding(crate::specs::Series::log2_series))]
     pub fn log2(re: f64, log2: f64) -> Series
         ensures { result ≡ log2_series re log2 }
     {
@@ -207,6 +219,7 @@ impl Series {
         Series::logarithm(rec, log2, rec / LN_2)
     }
 
+    #[tactic(auto, unfolding(crate::specs::Series::log10_series))]
     pub fn log10(re: f64, log10: f64) -> Series
         ensures { result ≡ log10_series re log10 }
     {
@@ -214,6 +227,7 @@ impl Series {
         Series::logarithm(rec, log10, rec / LN_10)
     }
 
+    #[tactic(auto, unfolding(crate::specs::Series::ln1p_series))]
     pub fn ln_1p(re: f64, ln_1p: f64) -> Series
         ensures { result ≡ ln1p_series re ln_1p }
     {
@@ -221,6 +235,7 @@ impl Series {
         Series::logarithm(rec, ln_1p, rec)
     }
 
+    #[tactic(auto, unfolding(crate::specs::Series::sin_series))]
     pub fn sin(sin: f64, cos: f64) -> Series
         ensures { result ≡ sin_series sin cos }
     {
@@ -232,6 +247,7 @@ impl Series {
         }
     }
 
+    #[tactic(auto, unfolding(crate::specs::Series::cos_series))]
     pub fn cos(sin: f64, cos: f64) -> Series
         ensures { result ≡ cos_series sin cos }
     {
@@ -243,6 +259,7 @@ impl Series {
         }
     }
 
+    #[tactic(auto, unfolding(crate::specs::Series::asin_series))]
     pub fn asin(re: f64, asin: f64) -> Series
         ensures { result ≡ asin_series re asin }
     {
@@ -254,6 +271,7 @@ impl Series {
         Series { f0, f1, f2, f3 }
     }
 
+    #[tactic(auto, unfolding(crate::specs::Series::acos_series))]
     pub fn acos(re: f64, acos: f64) -> Series
         ensures { result ≡ acos_series re acos }
     {
@@ -265,6 +283,7 @@ impl Series {
         Series { f0, f1, f2, f3 }
     }
 
+    #[tactic(auto, unfolding(crate::specs::Series::atan_series))]
     pub fn atan(re: f64, atan: f64) -> Series
         ensures { result ≡ atan_series re atan }
     {
@@ -277,6 +296,7 @@ impl Series {
         Series { f0, f1, f2, f3 }
     }
 
+    #[tactic(auto, unfolding(crate::specs::Series::sinh_series))]
     pub fn sinh(sinh: f64, cosh: f64) -> Series
         ensures { result ≡ sinh_series sinh cosh }
     {
@@ -288,6 +308,7 @@ impl Series {
         }
     }
 
+    #[tactic(auto, unfolding(crate::specs::Series::cosh_series))]
     pub fn cosh(sinh: f64, cosh: f64) -> Series
         ensures { result ≡ cosh_series sinh cosh }
     {
@@ -299,6 +320,7 @@ impl Series {
         }
     }
 
+    #[tactic(auto, unfolding(crate::specs::Series::asinh_series))]
     pub fn asinh(re: f64, asinh: f64) -> Series
         ensures { result ≡ asinh_series re asinh }
     {
@@ -310,6 +332,7 @@ impl Series {
         Series { f0, f1, f2, f3 }
     }
 
+    #[tactic(auto, unfolding(crate::specs::Series::acosh_series))]
     pub fn acosh(re: f64, acosh: f64) -> Series
         ensures { result ≡ acosh_series re acosh }
     {
@@ -321,6 +344,7 @@ impl Series {
         Series { f0, f1, f2, f3 }
     }
 
+    #[tactic(auto, unfolding(crate::specs::Series::atanh_series))]
     pub fn atanh(re: f64, atanh: f64) -> Series
         ensures { result ≡ atanh_series re atanh }
     {
@@ -335,6 +359,7 @@ impl Series {
 }
 
 // The plan of a request, from the real part and the request alone.
+#[tactic(auto, using(crate::proofs::Requests::planned, crate::proofs::Requests::planned_powi, crate::proofs::Requests::planned_j0, crate::proofs::Requests::planned_j1, crate::proofs::Requests::planned_j2))]
 pub fn choose(re: f64, f: Function) -> Plan
     ensures { result ≡ plan_of re f }
 {
@@ -390,10 +415,10 @@ fn plan_powi(re: f64, exp: i32, pow3: f64) -> Plan
     ensures { result ≡ plan_powi re exp pow3 }
 {
     if exp < refusals::LEAST_EXPONENT {
-        return Plan::Refused(refusals::EXPONENT_TOO_LARGE);
+        return Plan::Refused(Refusal::ExponentTooLarge);
     }
     if exp > refusals::LARGEST_EXPONENT {
-        return Plan::Refused(refusals::EXPONENT_TOO_LARGE);
+        return Plan::Refused(Refusal::ExponentTooLarge);
     }
     match exp {
         0 => Plan::One,

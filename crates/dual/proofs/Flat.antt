@@ -1,27 +1,17 @@
--- The layout of `Dual` in flat floats: parts and record are two views of one thing, the real part first. Assumes nothing.
-use mathlib.Core.Path.{refl, ap, ◌∙◌}
-use native.Mathlib.Omega.{arith}
-use lib.Dec.{lit<, lit≤}
-use Rattle.real.specs.Operations as float
-use Rattle.algebra.specs.Flat.{tabulate, Lawful, Agrees}
-use Rattle.algebra.proofs.Flat.{tabulate_at}
-use Rattle.algebra.proofs.Laws.{Laws}
-use Rattle.dual.specs.Rules.{dual, dual_algebra, dual_layout}
-use Rattle.dual.proofs.RealParts.{dual_reals}
+-- A `Dual` in flat floats, as its reader and its writer leave it: the law over any record (Cells). Assumes nothing.
+use Rattle.std.specs.Prelude.{ℕ, ◌+◌, ◌*◌, ◌/◌, ◌<◌, ◌≡◌, List, Float, length, get_or, set}
+use Rattle.algebra.specs.Algebra.{zero_of}
+use Rattle.algebra.proofs.Flat.{decode_length}
+use Rattle.algebra.proofs.Cells.{read_held, write_held}
+use Rattle.dual.specs.declared.Dual.{Dual}
+use Rattle.dual.specs.Rules.{dual, dual_algebra, dual_layout, dual_records}
+pub use Rattle.dual.specs.Laws.{dual_lawful, dual_agrees, dual_laws}
 
-pub dual_lawful : Lawful dual_layout
-unfolding tabulate
-dual_lawful = record {
-  positive = lit< tt;
-  size = λ x. refl;
-  reads = λ f g h. λ i. dual (h 0 (lit< tt) i) (h 1 (lit< tt) i);
-  whole = λ x. refl;
-  again = λ f i h. tabulate_at f 2 0 i float.zero h ∙ ap f (omega arith);
-}
+pub dual_held : (l : List Float) → length (dual_records l) ≡ length l / 2
+dual_held = decode_length dual_layout dual_lawful
 
-pub dual_agrees : Agrees dual_algebra dual_layout
-dual_agrees = record { first = λ f. refl; blank = refl }
+pub dual_read : (l : List Float) (p : ℕ) (e : Float) → p < length (dual_records l) → dual (get_or l (p * 2) e) (get_or l (p * 2 + 1) e) ≡ get_or (dual_records l) p (zero_of dual_algebra)
+dual_read = read_held dual_laws
 
--- what the code over any record asks of `Dual`
-pub dual_laws : Laws dual_algebra dual_layout
-dual_laws = record { lawful = dual_lawful; agrees = dual_agrees; real = dual_reals; narrow = lit≤ tt }
+pub dual_written : (l : List Float) (p : ℕ) (x : Dual) → p < length (dual_records l) → dual_records (set (set l (p * 2) x.re) (p * 2 + 1) x.eps) ≡ set (dual_records l) p x
+dual_written = write_held dual_laws

@@ -6,10 +6,10 @@ use Rattle.real.specs.Operations.{◌⊕◌, ◌⊖◌, ◌⊗◌, ◌⊘◌, ze
 use Rattle.algebra.specs.Algebra.{Algebra}
 use Rattle.algebra.specs.Flat.{Layout, decode}
 use Rattle.algebra.specs.Outcome.{Outcome, value, refused}
+use Rattle.refusals.specs.Number as refusal
+use Rattle.records.specs.declared.Derivative.{Derivative}
+use Rattle.records.specs.declared.Derivative.TheVariants.{Only, First, Second, Third}
 use Rattle.dual.specs.declared.Dual.{Dual}
-use Rattle.dual.specs.declared.DualSinCos.{DualSinCos}
-use Rattle.dual.specs.declared.DualAnswer.{DualAnswer}
-use Rattle.dual.specs.declared.DualAnswer.TheVariants.{Value, Refused}
 
 -- a record by its parts
 abbrev pub dual : Float → Float → Dual
@@ -22,6 +22,13 @@ dual_from_re re = dual re zero
 -- the derivative part set to 1
 abbrev pub dual_derivative : Dual → Dual
 dual_derivative self = dual self.re one
+
+-- which of its kin the record has: `derivative` alone, and each other is refused 2
+abbrev pub dual_derivatives : Derivative → Dual → Outcome Dual
+dual_derivatives Only x = value (dual_derivative x)
+dual_derivatives First x = refused refusal.wrong_length
+dual_derivatives Second x = refused refusal.wrong_length
+dual_derivatives Third x = refused refusal.wrong_length
 
 -- chain rule
 unfoldable pub dual_chain : Dual → Float → Float → Dual
@@ -85,12 +92,3 @@ dual_layout = record {
 -- the records that flat floats hold
 abbrev pub dual_records : List Float → List Dual
 dual_records l = decode dual_layout l
-
--- a sine and a cosine
-abbrev pub dual_sin_cos : Dual → Dual → DualSinCos
-dual_sin_cos sin cos = record { sin = sin; cos = cos }
-
--- document 01's reading of an answer: the record, or the number that it is refused by
-abbrev pub outcome : DualAnswer → Outcome Dual
-outcome (Value x) = value x
-outcome (Refused n) = refused n

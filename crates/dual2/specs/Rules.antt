@@ -6,10 +6,10 @@ use Rattle.real.specs.Operations.{◌⊕◌, ◌⊖◌, ◌⊗◌, ◌⊘◌, ze
 use Rattle.algebra.specs.Algebra.{Algebra}
 use Rattle.algebra.specs.Flat.{Layout, decode}
 use Rattle.algebra.specs.Outcome.{Outcome, value, refused}
+use Rattle.refusals.specs.Number as refusal
+use Rattle.records.specs.declared.Derivative.{Derivative}
+use Rattle.records.specs.declared.Derivative.TheVariants.{Only, First, Second, Third}
 use Rattle.dual2.specs.declared.Dual2.{Dual2}
-use Rattle.dual2.specs.declared.Dual2SinCos.{Dual2SinCos}
-use Rattle.dual2.specs.declared.Dual2Answer.{Dual2Answer}
-use Rattle.dual2.specs.declared.Dual2Answer.TheVariants.{Value, Refused}
 
 -- a record by its parts
 abbrev pub dual2 : Float → Float → Float → Dual2
@@ -18,6 +18,13 @@ dual2 re v1 v2 = record { re = re; v1 = v1; v2 = v2 }
 -- the derivative part set to 1
 abbrev pub dual2_derivative : Dual2 → Dual2
 dual2_derivative self = dual2 self.re one self.v2
+
+-- which of its kin the record has: `derivative` alone, and each other is refused 2
+abbrev pub dual2_derivatives : Derivative → Dual2 → Outcome Dual2
+dual2_derivatives Only x = value (dual2_derivative x)
+dual2_derivatives First x = refused refusal.wrong_length
+dual2_derivatives Second x = refused refusal.wrong_length
+dual2_derivatives Third x = refused refusal.wrong_length
 
 -- a real part alone
 abbrev pub dual2_from_re : Float → Dual2
@@ -95,12 +102,3 @@ dual2_layout = record {
 -- the records that flat floats hold
 abbrev pub dual2_records : List Float → List Dual2
 dual2_records l = decode dual2_layout l
-
--- a sine and a cosine
-abbrev pub dual2_sin_cos : Dual2 → Dual2 → Dual2SinCos
-dual2_sin_cos sin cos = record { sin = sin; cos = cos }
-
--- document 01's reading of an answer: the record, or the number that it is refused by
-abbrev pub outcome : Dual2Answer → Outcome Dual2
-outcome (Value x) = value x
-outcome (Refused n) = refused n

@@ -1,18 +1,21 @@
-// Second order dual numbers for second derivatives: datatypes/dual2.rs. The operators of macros.rs are in operations.rt, the functions of
-// impl_derivatives.rs in functions.rt, records in flat floats in records.rt.
+// Second order dual numbers for second derivatives: datatypes/dual2.rs. The rules of the record, its layout in flat floats
+// and its comparisons; what every record type has stands in the trait `Record`.
 
 #![tactic(auto)]
 
-mod functions;
-mod operations;
-mod records;
-
 ghost use Rattle.std.specs.Prelude.{◌≡◌};
-ghost use Rattle.dual2.specs.Rules.{dual2, dual2_derivative, dual2_from_re, dual2_chain, dual2_mul, dual2_div};
+ghost use Rattle.std.specs.Float.Ieee.{eq};
+ghost use Rattle.std.specs.Ordering.{float_partial_cmp, on};
+ghost use Rattle.std.specs.Float.Cmp.{on_floats_per, on_floats_po};
+ghost use Rattle.dual2.specs.Rules.{dual2, dual2_derivative, dual2_derivatives, dual2_algebra, dual2_layout, dual2_nderiv};
+ghost use Rattle.dual2.specs.Laws.{dual2_laws};
 
-pub use records::{product, read, sum, write};
+use derivatives::Series;
+use records::{Derivative, Record};
+use refusals::Refusal;
+use std::cmp::Ordering;
 
-#[derive(Clone, Copy)]
+#[derive(Clone, Copy, Debug)]
 pub struct Dual2 {
     // Real part of the second order dual number
     pub re: f64,
@@ -22,36 +25,7 @@ pub struct Dual2 {
     pub v2: f64,
 }
 
-// A record, or the number that a request is refused by.
-#[derive(Clone, Copy)]
-pub enum Dual2Answer {
-    Value(Dual2),
-    Refused(u32),
-}
-
-// What `sin_cos` gives.
-#[derive(Clone, Copy)]
-pub struct Dual2SinCos {
-    pub sin: Dual2,
-    pub cos: Dual2,
-}
-
 impl Dual2 {
-    pub const ZERO: Dual2 = Dual2 {
-        re: 0.0,
-        v1: 0.0,
-        v2: 0.0,
-    };
-
-    pub const ONE: Dual2 = Dual2 {
-        re: 1.0,
-        v1: 0.0,
-        v2: 0.0,
-    };
-
-    // The highest order of a derivative that the record carries.
-    pub const NDERIV: usize = 2;
-
     // Create a new second order dual number from its fields.
     pub fn new(re: f64, v1: f64, v2: f64) -> Self
         ensures { result ≡ dual2 re v1 v2 }
@@ -66,11 +40,30 @@ impl Dual2 {
         self.v1 = 1.0;
         self
     }
+}
 
-    // Create a new second order dual number from the real part.
-    pub fn from_re(re: f64) -> Self
-        ensures { result ≡ dual2_from_re re }
-    {
+impl Record for Dual2 {
+    ghost algebra = { dual2_algebra };
+
+    ghost layout = { dual2_layout };
+
+    ghost derivatives = { dual2_derivatives };
+
+    ghost NDERIV = { dual2_nderiv };
+
+    ghost laws = { dual2_laws };
+
+    const NDERIV: usize = 2;
+
+    fn width() -> usize {
+        3
+    }
+
+    fn re(self) -> f64 {
+        self.re
+    }
+
+    fn from_re(re: f64) -> Self {
         Self {
             re,
             v1: 0.0,
@@ -78,21 +71,38 @@ impl Dual2 {
         }
     }
 
-    /* chain rule */
-    fn chain_rule(self, f0: f64, f1: f64, f2: f64) -> Self
-        ensures { result ≡ dual2_chain self f0 f1 f2 }
-    {
+    fn with_re(self, re: f64) -> Self {
+        Self { re, ..self }
+    }
+
+    fn with_derivative(self, which: Derivative) -> Result<Self, Refusal> {
+        match which {
+            Derivative::Only => Ok(self.derivative()),
+            _ => Err(Refusal::WrongLength),
+        }
+    }
+
+    #[tactic(auto, unfolding(crate::specs::Rules::dual2_add))]
+    fn add(self, other: Self) -> Self {
         Self {
-            re: f0,
-            v1: self.v1 * f1,
-            v2: self.v2 * f1 + self.v1 * self.v1 * f2,
+            re: self.re + other.re,
+            v1: self.v1 + other.v1,
+            v2: self.v2 + other.v2,
+        }
+    }
+
+    #[tactic(auto, unfolding(crate::specs::Rules::dual2_sub))]
+    fn sub(self, other: Self) -> Self {
+        Self {
+            re: self.re - other.re,
+            v1: self.v1 - other.v1,
+            v2: self.v2 - other.v2,
         }
     }
 
     /* product rule */
-    pub fn mul(self, other: Dual2) -> Self
-        ensures { result ≡ dual2_mul self other }
-    {
+    #[tactic(auto, unfolding(crate::specs::Rules::dual2_mul))]
+    fn mul(self, other: Self) -> Self {
         Self {
             re: self.re * other.re,
             v1: other.v1 * self.re + self.v1 * other.re,
@@ -101,9 +111,8 @@ impl Dual2 {
     }
 
     /* quotient rule */
-    pub fn div(self, other: Dual2) -> Self
-        ensures { result ≡ dual2_div self other }
-    {
+    #[tactic(auto, unfolding(crate::specs::Rules::dual2_div))]
+    fn div(self, other: Self) -> Self {
         let inv = 1.0 / other.re;
         let inv2 = inv * inv;
         Self {
@@ -113,5 +122,81 @@ impl Dual2 {
                 - (other.v2 * self.re + self.v1 * other.v1 + other.v1 * self.v1) * inv2
                 + other.v1 * other.v1 * ((1.0 + 1.0) * self.re * inv2 * inv),
         }
+    }
+
+    #[tactic(auto, unfolding(crate::specs::Rules::dual2_neg))]
+    fn neg(self) -> Self {
+        Self {
+            re: -self.re,
+            v1: -self.v1,
+            v2: -self.v2,
+        }
+    }
+
+    #[tactic(auto, unfolding(crate::specs::Rules::dual2_mul_float))]
+    fn mul_float(self, other: f64) -> Self {
+        Self {
+            re: self.re * other,
+            v1: self.v1 * other,
+            v2: self.v2 * other,
+        }
+    }
+
+    #[tactic(auto, unfolding(crate::specs::Rules::dual2_div_float))]
+    fn div_float(self, other: f64) -> Self {
+        Self {
+            re: self.re / other,
+            v1: self.v1 / other,
+            v2: self.v2 / other,
+        }
+    }
+
+    /* chain rule */
+    #[tactic(auto, unfolding(crate::specs::Rules::dual2_chain))]
+    fn chain(self, s: Series) -> Self {
+        Self {
+            re: s.f0,
+            v1: self.v1 * s.f1,
+            v2: self.v2 * s.f1 + self.v1 * self.v1 * s.f2,
+        }
+    }
+
+    #[tactic(auto, using(crate::proofs::Flat::dual2_held, crate::proofs::Flat::dual2_read))]
+    fn read(floats: &[f64], at: usize) -> Self {
+        let first = records::place(floats.len(), 3, at);
+        Self {
+            re: floats[first],
+            v1: floats[first + 1],
+            v2: floats[first + 2],
+        }
+    }
+
+    #[tactic(auto, using(crate::proofs::Flat::dual2_held, crate::proofs::Flat::dual2_written))]
+    fn write(floats: &mut [f64], at: usize, x: Self) {
+        let first = records::place(floats.len(), 3, at);
+        floats[first] = x.re;
+        floats[first + 1] = x.v1;
+        floats[first + 2] = x.v2;
+    }
+}
+
+// Comparisons are only made based on the real part.
+impl PartialEq for Dual2 {
+    ghost eq = { on (λ x. x.re) eq };
+
+    ghost laws = { on_floats_per (λ x. x.re) };
+
+    fn eq(&self, other: &Dual2) -> bool {
+        self.re == other.re
+    }
+}
+
+impl PartialOrd for Dual2 {
+    ghost partial_cmp = { on (λ x. x.re) float_partial_cmp };
+
+    ghost laws = { on_floats_po (λ x. x.re) };
+
+    fn partial_cmp(&self, other: &Dual2) -> Option<Ordering> {
+        self.re.partial_cmp(&other.re)
     }
 }

@@ -7,10 +7,10 @@ use Rattle.algebra.specs.Algebra.{Algebra}
 use Rattle.algebra.specs.Flat.{Layout, decode}
 use Rattle.algebra.specs.Outcome.{Outcome, value, refused}
 use Rattle.derivatives.specs.Series.{recip_series}
+use Rattle.refusals.specs.Number as refusal
+use Rattle.records.specs.declared.Derivative.{Derivative}
+use Rattle.records.specs.declared.Derivative.TheVariants.{Only, First, Second, Third}
 use Rattle.dual3.specs.declared.Dual3.{Dual3}
-use Rattle.dual3.specs.declared.Dual3SinCos.{Dual3SinCos}
-use Rattle.dual3.specs.declared.Dual3Answer.{Dual3Answer}
-use Rattle.dual3.specs.declared.Dual3Answer.TheVariants.{Value, Refused}
 
 -- a record by its parts
 abbrev pub dual3 : Float → Float → Float → Float → Dual3
@@ -23,6 +23,13 @@ dual3_from_re re = dual3 re zero zero zero
 -- the first derivative part set to 1
 abbrev pub dual3_derivative : Dual3 → Dual3
 dual3_derivative self = dual3 self.re one self.v2 self.v3
+
+-- which of its kin the record has: `derivative` alone, and each other is refused 2
+abbrev pub dual3_derivatives : Derivative → Dual3 → Outcome Dual3
+dual3_derivatives Only x = value (dual3_derivative x)
+dual3_derivatives First x = refused refusal.wrong_length
+dual3_derivatives Second x = refused refusal.wrong_length
+dual3_derivatives Third x = refused refusal.wrong_length
 
 -- chain rule
 unfoldable pub dual3_chain : Dual3 → Float → Float → Float → Float → Dual3
@@ -99,12 +106,3 @@ dual3_layout = record {
 -- the records that flat floats hold
 abbrev pub dual3_records : List Float → List Dual3
 dual3_records l = decode dual3_layout l
-
--- a sine and a cosine
-abbrev pub dual3_sin_cos : Dual3 → Dual3 → Dual3SinCos
-dual3_sin_cos sin cos = record { sin = sin; cos = cos }
-
--- document 01's reading of an answer: the record, or the number that it is refused by
-abbrev pub outcome : Dual3Answer → Outcome Dual3
-outcome (Value x) = value x
-outcome (Refused n) = refused n

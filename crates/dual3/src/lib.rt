@@ -1,19 +1,21 @@
-// Third order dual numbers for third derivatives: datatypes/dual3.rs. The operators of macros.rs are in operations.rt, the functions of
-// impl_derivatives.rs in functions.rt, records in flat floats in records.rt.
+// Third order dual numbers for third derivatives: datatypes/dual3.rs. The rules of the record, its layout in flat floats
+// and its comparisons; what every record type has stands in the trait `Record`.
 
 #![tactic(auto)]
 
-mod functions;
-mod operations;
-mod records;
-
 ghost use Rattle.std.specs.Prelude.{◌≡◌};
-ghost use Rattle.dual3.specs.Rules.{dual3, dual3_from_re, dual3_derivative, dual3_chain, dual3_mul, dual3_div};
+ghost use Rattle.std.specs.Float.Ieee.{eq};
+ghost use Rattle.std.specs.Ordering.{float_partial_cmp, on};
+ghost use Rattle.std.specs.Float.Cmp.{on_floats_per, on_floats_po};
+ghost use Rattle.dual3.specs.Rules.{dual3, dual3_derivative, dual3_derivatives, dual3_algebra, dual3_layout, dual3_nderiv};
+ghost use Rattle.dual3.specs.Laws.{dual3_laws};
 
 use derivatives::Series;
-pub use records::{product, read, sum, write};
+use records::{Derivative, Record, ThirdDerivative};
+use refusals::Refusal;
+use std::cmp::Ordering;
 
-#[derive(Clone, Copy)]
+#[derive(Clone, Copy, Debug)]
 pub struct Dual3 {
     // Real part of the third order dual number
     pub re: f64,
@@ -25,55 +27,12 @@ pub struct Dual3 {
     pub v3: f64,
 }
 
-// A record, or the number that a request is refused by.
-#[derive(Clone, Copy)]
-pub enum Dual3Answer {
-    Value(Dual3),
-    Refused(u32),
-}
-
-// What `sin_cos` gives.
-#[derive(Clone, Copy)]
-pub struct Dual3SinCos {
-    pub sin: Dual3,
-    pub cos: Dual3,
-}
-
 impl Dual3 {
-    pub const ZERO: Dual3 = Dual3 {
-        re: 0.0,
-        v1: 0.0,
-        v2: 0.0,
-        v3: 0.0,
-    };
-
-    pub const ONE: Dual3 = Dual3 {
-        re: 1.0,
-        v1: 0.0,
-        v2: 0.0,
-        v3: 0.0,
-    };
-
-    // The highest order of a derivative that the record carries.
-    pub const NDERIV: usize = 3;
-
     // Create a new third order dual number from its fields.
     pub fn new(re: f64, v1: f64, v2: f64, v3: f64) -> Self
         ensures { result ≡ dual3 re v1 v2 v3 }
     {
         Self { re, v1, v2, v3 }
-    }
-
-    // Create a new third order dual number from the real part.
-    pub fn from_re(re: f64) -> Self
-        ensures { result ≡ dual3_from_re re }
-    {
-        Self {
-            re,
-            v1: 0.0,
-            v2: 0.0,
-            v3: 0.0,
-        }
     }
 
     // Set the first derivative part to 1.
@@ -83,24 +42,72 @@ impl Dual3 {
         self.v1 = 1.0;
         self
     }
+}
 
-    /* chain rule */
-    fn chain_rule(self, f0: f64, f1: f64, f2: f64, f3: f64) -> Self
-        ensures { result ≡ dual3_chain self f0 f1 f2 f3 }
-    {
-        let three = 1.0 + 1.0 + 1.0;
+impl Record for Dual3 {
+    ghost algebra = { dual3_algebra };
+
+    ghost layout = { dual3_layout };
+
+    ghost derivatives = { dual3_derivatives };
+
+    ghost NDERIV = { dual3_nderiv };
+
+    ghost laws = { dual3_laws };
+
+    const NDERIV: usize = 3;
+
+    fn width() -> usize {
+        4
+    }
+
+    fn re(self) -> f64 {
+        self.re
+    }
+
+    fn from_re(re: f64) -> Self {
         Self {
-            re: f0,
-            v1: f1 * self.v1,
-            v2: f2 * self.v1 * self.v1 + f1 * self.v2,
-            v3: f3 * self.v1 * self.v1 * self.v1 + three * f2 * self.v1 * self.v2 + f1 * self.v3,
+            re,
+            v1: 0.0,
+            v2: 0.0,
+            v3: 0.0,
+        }
+    }
+
+    fn with_re(self, re: f64) -> Self {
+        Self { re, ..self }
+    }
+
+    fn with_derivative(self, which: Derivative) -> Result<Self, Refusal> {
+        match which {
+            Derivative::Only => Ok(self.derivative()),
+            _ => Err(Refusal::WrongLength),
+        }
+    }
+
+    #[tactic(auto, unfolding(crate::specs::Rules::dual3_add))]
+    fn add(self, other: Self) -> Self {
+        Self {
+            re: self.re + other.re,
+            v1: self.v1 + other.v1,
+            v2: self.v2 + other.v2,
+            v3: self.v3 + other.v3,
+        }
+    }
+
+    #[tactic(auto, unfolding(crate::specs::Rules::dual3_sub))]
+    fn sub(self, other: Self) -> Self {
+        Self {
+            re: self.re - other.re,
+            v1: self.v1 - other.v1,
+            v2: self.v2 - other.v2,
+            v3: self.v3 - other.v3,
         }
     }
 
     /* product rule */
-    pub fn mul(self, rhs: Dual3) -> Self
-        ensures { result ≡ dual3_mul self rhs }
-    {
+    #[tactic(auto, unfolding(crate::specs::Rules::dual3_mul))]
+    fn mul(self, rhs: Self) -> Self {
         let two = 1.0 + 1.0;
         let three = 1.0 + two;
         Self {
@@ -112,10 +119,95 @@ impl Dual3 {
     }
 
     /* quotient rule: the product with the chain rule of the reciprocal */
-    pub fn div(self, rhs: Dual3) -> Self
-        ensures { result ≡ dual3_div self rhs }
-    {
-        let s = Series::recip(rhs.re);
-        self.mul(rhs.chain_rule(s.f0, s.f1, s.f2, s.f3))
+    #[tactic(auto, unfolding(crate::specs::Rules::dual3_div))]
+    fn div(self, rhs: Self) -> Self {
+        self.mul(rhs.chain(Series::recip(rhs.re)))
+    }
+
+    #[tactic(auto, unfolding(crate::specs::Rules::dual3_neg))]
+    fn neg(self) -> Self {
+        Self {
+            re: -self.re,
+            v1: -self.v1,
+            v2: -self.v2,
+            v3: -self.v3,
+        }
+    }
+
+    #[tactic(auto, unfolding(crate::specs::Rules::dual3_mul_float))]
+    fn mul_float(self, other: f64) -> Self {
+        Self {
+            re: self.re * other,
+            v1: self.v1 * other,
+            v2: self.v2 * other,
+            v3: self.v3 * other,
+        }
+    }
+
+    #[tactic(auto, unfolding(crate::specs::Rules::dual3_div_float))]
+    fn div_float(self, other: f64) -> Self {
+        Self {
+            re: self.re / other,
+            v1: self.v1 / other,
+            v2: self.v2 / other,
+            v3: self.v3 / other,
+        }
+    }
+
+    /* chain rule */
+    #[tactic(auto, unfolding(crate::specs::Rules::dual3_chain))]
+    fn chain(self, s: Series) -> Self {
+        let three = 1.0 + 1.0 + 1.0;
+        Self {
+            re: s.f0,
+            v1: s.f1 * self.v1,
+            v2: s.f2 * self.v1 * self.v1 + s.f1 * self.v2,
+            v3: s.f3 * self.v1 * self.v1 * self.v1
+                + three * s.f2 * self.v1 * self.v2
+                + s.f1 * self.v3,
+        }
+    }
+
+    #[tactic(auto, using(crate::proofs::Flat::dual3_held, crate::proofs::Flat::dual3_read))]
+    fn read(floats: &[f64], at: usize) -> Self {
+        let first = records::place(floats.len(), 4, at);
+        Self {
+            re: floats[first],
+            v1: floats[first + 1],
+            v2: floats[first + 2],
+            v3: floats[first + 3],
+        }
+    }
+
+    #[tactic(auto, using(crate::proofs::Flat::dual3_held, crate::proofs::Flat::dual3_written))]
+    fn write(floats: &mut [f64], at: usize, x: Self) {
+        let first = records::place(floats.len(), 4, at);
+        floats[first] = x.re;
+        floats[first + 1] = x.v1;
+        floats[first + 2] = x.v2;
+        floats[first + 3] = x.v3;
+    }
+}
+
+impl ThirdDerivative for Dual3 {}
+
+// Comparisons are only made based on the real part.
+impl PartialEq for Dual3 {
+    ghost eq = { on (λ x. x.re) eq };
+
+    ghost laws = { on_floats_per (λ x. x.re) };
+
+    fn eq(&self, other: &Dual3) -> bool {
+        self.re == other.re
+    }
+}
+
+impl PartialOrd for Dual3 {
+    ghost partial_cmp = { on (λ x. x.re) float_partial_cmp };
+
+    ghost laws = { on_floats_po (λ x. x.re) };
+
+    fn partial_cmp(&self, other: &Dual3) -> Option<Ordering> {
+        self.re.partial_cmp(&other.re)
     }
 }

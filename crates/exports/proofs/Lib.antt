@@ -1,6 +1,5 @@
 -- Laws that the proofs cite.
 mod Crossed
-mod KindArms
 -- this crate's promises leave one outcome each
 pub mod OneAnswer
 -- calls of the Matrix Market exports, one and two

@@ -5,18 +5,17 @@ ghost use Rattle.calls.specs.declared.Binary.TheVariants.{Add, Sub, Mul, Div};
 ghost use Rattle.exports.specs.ByKind.{record_left};
 
 use calls::Binary;
+use kinds::Kind;
+use refusals::answer_number;
 
 // An operation on two records of that kind, self first. Another kind or length is refused 2.
+#[tactic(auto, unfolding(crate::specs::ByKind::record_left, calls::specs::Called::operated_of))]
 fn operator(kind: u32, op: Binary, records: &[u64], out: &mut [u64]) -> u32
     ensures { (result, out.new) ≡ record_left kind (binary_number op) (pos 0) records.now [] out.old }
 {
-    match kind {
-        1 => dual_calls::operator(op, records, out),
-        2 => dual2_calls::operator(op, records, out),
-        3 => dual3_calls::operator(op, records, out),
-        4 => hyperdual_calls::operator(op, records, out),
-        5 => hyperhyperdual_calls::operator(op, records, out),
-        _ => refusals::WRONG_LENGTH,
+    match Kind::try_from(kind) {
+        Ok(kind) => answer_number(kind.operator(op, records, out)),
+        Err(refusal) => refusal.number(),
     }
 }
 

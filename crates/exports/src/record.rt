@@ -2,9 +2,13 @@
 ghost use Rattle.std.specs.Prelude.{◌≡◌};
 ghost use Rattle.exports.specs.ByKind.{record_left, sum_left, product_left};
 
+use kinds::Kind;
+use refusals::answer_number;
+
 // A function by its number in oracle/README.md ("Functions"), over words. `records` holds the records that it takes, self first, `floats` its plain and outside floats in the
 // table's order, `out` as many words as it gives: those of one record, of two for sin_cos, of one float for a truth (1.0 or 0.0). powi alone reads `exponent`. Another kind, function
 // or length is refused 2, then powi's exponent 5.
+#[tactic(auto, unfolding(crate::specs::ByKind::record_left))]
 pub fn evindrast_record(
     kind: u32,
     function: u32,
@@ -15,40 +19,30 @@ pub fn evindrast_record(
 ) -> u32
     ensures { (result, out.new) ≡ record_left kind function exponent records.now floats.now out.old }
 {
-    match kind {
-        1 => dual_calls::call(function, exponent, records, floats, out),
-        2 => dual2_calls::call(function, exponent, records, floats, out),
-        3 => dual3_calls::call(function, exponent, records, floats, out),
-        4 => hyperdual_calls::call(function, exponent, records, floats, out),
-        5 => hyperhyperdual_calls::call(function, exponent, records, floats, out),
-        _ => refusals::WRONG_LENGTH,
+    match Kind::try_from(kind) {
+        Ok(kind) => answer_number(kind.call(function, exponent, records, floats, out)),
+        Err(refusal) => refusal.number(),
     }
 }
 
 // The sum of the records of a run, from zero, left to right; `out` is one record. Another kind, or a length of no whole records, is refused 2.
+#[tactic(auto, unfolding(crate::specs::ByKind::sum_left))]
 pub fn evindrast_sum(kind: u32, run: &[f64], out: &mut [f64]) -> u32
     ensures { (result, out.new) ≡ sum_left kind run.now out.old }
 {
-    match kind {
-        1 => dual_calls::sum(run, out),
-        2 => dual2_calls::sum(run, out),
-        3 => dual3_calls::sum(run, out),
-        4 => hyperdual_calls::sum(run, out),
-        5 => hyperhyperdual_calls::sum(run, out),
-        _ => refusals::WRONG_LENGTH,
+    match Kind::try_from(kind) {
+        Ok(kind) => answer_number(kind.sum(run, out)),
+        Err(refusal) => refusal.number(),
     }
 }
 
 // The product of the records of a run, from one, left to right; else as the sum.
+#[tactic(auto, unfolding(crate::specs::ByKind::product_left))]
 pub fn evindrast_product(kind: u32, run: &[f64], out: &mut [f64]) -> u32
     ensures { (result, out.new) ≡ product_left kind run.now out.old }
 {
-    match kind {
-        1 => dual_calls::product(run, out),
-        2 => dual2_calls::product(run, out),
-        3 => dual3_calls::product(run, out),
-        4 => hyperdual_calls::product(run, out),
-        5 => hyperhyperdual_calls::product(run, out),
-        _ => refusals::WRONG_LENGTH,
+    match Kind::try_from(kind) {
+        Ok(kind) => answer_number(kind.product(run, out)),
+        Err(refusal) => refusal.number(),
     }
 }

@@ -1,27 +1,17 @@
--- The layout of `HyperDual` in flat floats: parts and record are two views of one thing, the real part first. Assumes nothing.
-use mathlib.Core.Path.{refl, ap, ◌∙◌}
-use native.Mathlib.Omega.{arith}
-use lib.Dec.{lit<, lit≤}
-use Rattle.real.specs.Operations as float
-use Rattle.algebra.specs.Flat.{tabulate, Lawful, Agrees}
-use Rattle.algebra.proofs.Flat.{tabulate_at}
-use Rattle.algebra.proofs.Laws.{Laws}
-use Rattle.hyperdual.specs.Rules.{hyper_dual, hyper_dual_algebra, hyper_dual_layout}
-use Rattle.hyperdual.proofs.RealParts.{hyper_dual_reals}
+-- A `HyperDual` in flat floats, as its reader and its writer leave it: the law over any record (Cells). Assumes nothing.
+use Rattle.std.specs.Prelude.{ℕ, ◌+◌, ◌*◌, ◌/◌, ◌<◌, ◌≡◌, List, Float, length, get_or, set}
+use Rattle.algebra.specs.Algebra.{zero_of}
+use Rattle.algebra.proofs.Flat.{decode_length}
+use Rattle.algebra.proofs.Cells.{read_held, write_held}
+use Rattle.hyperdual.specs.declared.HyperDual.{HyperDual}
+use Rattle.hyperdual.specs.Rules.{hyper_dual, hyper_dual_algebra, hyper_dual_layout, hyper_dual_records}
+pub use Rattle.hyperdual.specs.Laws.{hyper_dual_lawful, hyper_dual_agrees, hyper_dual_laws}
 
-pub hyper_dual_lawful : Lawful hyper_dual_layout
-unfolding tabulate
-hyper_dual_lawful = record {
-  positive = lit< tt;
-  size = λ x. refl;
-  reads = λ f g h. λ i. hyper_dual (h 0 (lit< tt) i) (h 1 (lit< tt) i) (h 2 (lit< tt) i) (h 3 (lit< tt) i);
-  whole = λ x. refl;
-  again = λ f i h. tabulate_at f 4 0 i float.zero h ∙ ap f (omega arith);
-}
+pub hyper_dual_held : (l : List Float) → length (hyper_dual_records l) ≡ length l / 4
+hyper_dual_held = decode_length hyper_dual_layout hyper_dual_lawful
 
-pub hyper_dual_agrees : Agrees hyper_dual_algebra hyper_dual_layout
-hyper_dual_agrees = record { first = λ f. refl; blank = refl }
+pub hyper_dual_read : (l : List Float) (p : ℕ) (e : Float) → p < length (hyper_dual_records l) → hyper_dual (get_or l (p * 4) e) (get_or l (p * 4 + 1) e) (get_or l (p * 4 + 2) e) (get_or l (p * 4 + 3) e) ≡ get_or (hyper_dual_records l) p (zero_of hyper_dual_algebra)
+hyper_dual_read = read_held hyper_dual_laws
 
--- what the code over any record asks of `HyperDual`
-pub hyper_dual_laws : Laws hyper_dual_algebra hyper_dual_layout
-hyper_dual_laws = record { lawful = hyper_dual_lawful; agrees = hyper_dual_agrees; real = hyper_dual_reals; narrow = lit≤ tt }
+pub hyper_dual_written : (l : List Float) (p : ℕ) (x : HyperDual) → p < length (hyper_dual_records l) → hyper_dual_records (set (set (set (set l (p * 4) x.re) (p * 4 + 1) x.eps1) (p * 4 + 2) x.eps2) (p * 4 + 3) x.eps1eps2) ≡ set (hyper_dual_records l) p x
+hyper_dual_written = write_held hyper_dual_laws

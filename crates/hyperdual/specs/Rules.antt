@@ -6,10 +6,10 @@ use Rattle.real.specs.Operations.{◌⊕◌, ◌⊖◌, ◌⊗◌, ◌⊘◌, ze
 use Rattle.algebra.specs.Algebra.{Algebra}
 use Rattle.algebra.specs.Flat.{Layout, decode}
 use Rattle.algebra.specs.Outcome.{Outcome, value, refused}
+use Rattle.refusals.specs.Number as refusal
+use Rattle.records.specs.declared.Derivative.{Derivative}
+use Rattle.records.specs.declared.Derivative.TheVariants.{Only, First, Second, Third}
 use Rattle.hyperdual.specs.declared.HyperDual.{HyperDual}
-use Rattle.hyperdual.specs.declared.HyperDualSinCos.{HyperDualSinCos}
-use Rattle.hyperdual.specs.declared.HyperDualAnswer.{HyperDualAnswer}
-use Rattle.hyperdual.specs.declared.HyperDualAnswer.TheVariants.{Value, Refused}
 
 -- a record by its parts
 abbrev pub hyper_dual : Float → Float → Float → Float → HyperDual
@@ -22,6 +22,13 @@ hyper_dual_derivative1 self = hyper_dual self.re one self.eps2 self.eps1eps2
 -- the partial derivative part w.r.t. the 2nd variable set to 1
 abbrev pub hyper_dual_derivative2 : HyperDual → HyperDual
 hyper_dual_derivative2 self = hyper_dual self.re self.eps1 one self.eps1eps2
+
+-- which of its kin the record has: `derivative1` and `derivative2`, and each other is refused 2
+abbrev pub hyper_dual_derivatives : Derivative → HyperDual → Outcome HyperDual
+hyper_dual_derivatives Only x = refused refusal.wrong_length
+hyper_dual_derivatives First x = value (hyper_dual_derivative1 x)
+hyper_dual_derivatives Second x = value (hyper_dual_derivative2 x)
+hyper_dual_derivatives Third x = refused refusal.wrong_length
 
 -- a real part alone
 abbrev pub hyper_dual_from_re : Float → HyperDual
@@ -104,12 +111,3 @@ hyper_dual_layout = record {
 -- the records that flat floats hold
 abbrev pub hyper_dual_records : List Float → List HyperDual
 hyper_dual_records l = decode hyper_dual_layout l
-
--- a sine and a cosine
-abbrev pub hyper_dual_sin_cos : HyperDual → HyperDual → HyperDualSinCos
-hyper_dual_sin_cos sin cos = record { sin = sin; cos = cos }
-
--- document 01's reading of an answer: the record, or the number that it is refused by
-abbrev pub outcome : HyperDualAnswer → Outcome HyperDual
-outcome (Value x) = value x
-outcome (Refused n) = refused n

@@ -1,27 +1,17 @@
--- The layout of `HyperHyperDual` in flat floats: parts and record are two views of one thing, the real part first. Assumes nothing.
-use mathlib.Core.Path.{refl, ap, ◌∙◌}
-use native.Mathlib.Omega.{arith}
-use lib.Dec.{lit<, lit≤}
-use Rattle.real.specs.Operations as float
-use Rattle.algebra.specs.Flat.{tabulate, Lawful, Agrees}
-use Rattle.algebra.proofs.Flat.{tabulate_at}
-use Rattle.algebra.proofs.Laws.{Laws}
-use Rattle.hyperhyperdual.specs.Rules.{hyper_hyper_dual, hyper_hyper_dual_algebra, hyper_hyper_dual_layout}
-use Rattle.hyperhyperdual.proofs.RealParts.{hyper_hyper_dual_reals}
+-- A `HyperHyperDual` in flat floats, as its reader and its writer leave it: the law over any record (Cells). Assumes nothing.
+use Rattle.std.specs.Prelude.{ℕ, ◌+◌, ◌*◌, ◌/◌, ◌<◌, ◌≡◌, List, Float, length, get_or, set}
+use Rattle.algebra.specs.Algebra.{zero_of}
+use Rattle.algebra.proofs.Flat.{decode_length}
+use Rattle.algebra.proofs.Cells.{read_held, write_held}
+use Rattle.hyperhyperdual.specs.declared.HyperHyperDual.{HyperHyperDual}
+use Rattle.hyperhyperdual.specs.Rules.{hyper_hyper_dual, hyper_hyper_dual_algebra, hyper_hyper_dual_layout, hyper_hyper_dual_records}
+pub use Rattle.hyperhyperdual.specs.Laws.{hyper_hyper_dual_lawful, hyper_hyper_dual_agrees, hyper_hyper_dual_laws}
 
-pub hyper_hyper_dual_lawful : Lawful hyper_hyper_dual_layout
-unfolding tabulate
-hyper_hyper_dual_lawful = record {
-  positive = lit< tt;
-  size = λ x. refl;
-  reads = λ f g h. λ i. hyper_hyper_dual (h 0 (lit< tt) i) (h 1 (lit< tt) i) (h 2 (lit< tt) i) (h 3 (lit< tt) i) (h 4 (lit< tt) i) (h 5 (lit< tt) i) (h 6 (lit< tt) i) (h 7 (lit< tt) i);
-  whole = λ x. refl;
-  again = λ f i h. tabulate_at f 8 0 i float.zero h ∙ ap f (omega arith);
-}
+pub hyper_hyper_dual_held : (l : List Float) → length (hyper_hyper_dual_records l) ≡ length l / 8
+hyper_hyper_dual_held = decode_length hyper_hyper_dual_layout hyper_hyper_dual_lawful
 
-pub hyper_hyper_dual_agrees : Agrees hyper_hyper_dual_algebra hyper_hyper_dual_layout
-hyper_hyper_dual_agrees = record { first = λ f. refl; blank = refl }
+pub hyper_hyper_dual_read : (l : List Float) (p : ℕ) (e : Float) → p < length (hyper_hyper_dual_records l) → hyper_hyper_dual (get_or l (p * 8) e) (get_or l (p * 8 + 1) e) (get_or l (p * 8 + 2) e) (get_or l (p * 8 + 3) e) (get_or l (p * 8 + 4) e) (get_or l (p * 8 + 5) e) (get_or l (p * 8 + 6) e) (get_or l (p * 8 + 7) e) ≡ get_or (hyper_hyper_dual_records l) p (zero_of hyper_hyper_dual_algebra)
+hyper_hyper_dual_read = read_held hyper_hyper_dual_laws
 
--- what the code over any record asks of `HyperHyperDual`
-pub hyper_hyper_dual_laws : Laws hyper_hyper_dual_algebra hyper_hyper_dual_layout
-hyper_hyper_dual_laws = record { lawful = hyper_hyper_dual_lawful; agrees = hyper_hyper_dual_agrees; real = hyper_hyper_dual_reals; narrow = lit≤ tt }
+pub hyper_hyper_dual_written : (l : List Float) (p : ℕ) (x : HyperHyperDual) → p < length (hyper_hyper_dual_records l) → hyper_hyper_dual_records (set (set (set (set (set (set (set (set l (p * 8) x.re) (p * 8 + 1) x.eps1) (p * 8 + 2) x.eps2) (p * 8 + 3) x.eps3) (p * 8 + 4) x.eps1eps2) (p * 8 + 5) x.eps1eps3) (p * 8 + 6) x.eps2eps3) (p * 8 + 7) x.eps1eps2eps3) ≡ set (hyper_hyper_dual_records l) p x
+hyper_hyper_dual_written = write_held hyper_hyper_dual_laws

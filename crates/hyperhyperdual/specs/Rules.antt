@@ -7,10 +7,10 @@ use Rattle.algebra.specs.Algebra.{Algebra}
 use Rattle.algebra.specs.Flat.{Layout, decode}
 use Rattle.algebra.specs.Outcome.{Outcome, value, refused}
 use Rattle.derivatives.specs.Series.{recip_series}
+use Rattle.refusals.specs.Number as refusal
+use Rattle.records.specs.declared.Derivative.{Derivative}
+use Rattle.records.specs.declared.Derivative.TheVariants.{Only, First, Second, Third}
 use Rattle.hyperhyperdual.specs.declared.HyperHyperDual.{HyperHyperDual}
-use Rattle.hyperhyperdual.specs.declared.HyperHyperDualSinCos.{HyperHyperDualSinCos}
-use Rattle.hyperhyperdual.specs.declared.HyperHyperDualAnswer.{HyperHyperDualAnswer}
-use Rattle.hyperhyperdual.specs.declared.HyperHyperDualAnswer.TheVariants.{Value, Refused}
 
 -- a record by its parts
 abbrev pub hyper_hyper_dual : Float → Float → Float → Float → Float → Float → Float → Float → HyperHyperDual
@@ -27,6 +27,13 @@ hyper_hyper_dual_derivative2 self = hyper_hyper_dual self.re self.eps1 one self.
 -- the partial derivative part w.r.t. the 3rd variable set to 1
 abbrev pub hyper_hyper_dual_derivative3 : HyperHyperDual → HyperHyperDual
 hyper_hyper_dual_derivative3 self = hyper_hyper_dual self.re self.eps1 self.eps2 one self.eps1eps2 self.eps1eps3 self.eps2eps3 self.eps1eps2eps3
+
+-- which of its kin the record has: `derivative1`, `derivative2` and `derivative3`, and each other is refused 2
+abbrev pub hyper_hyper_dual_derivatives : Derivative → HyperHyperDual → Outcome HyperHyperDual
+hyper_hyper_dual_derivatives Only x = refused refusal.wrong_length
+hyper_hyper_dual_derivatives First x = value (hyper_hyper_dual_derivative1 x)
+hyper_hyper_dual_derivatives Second x = value (hyper_hyper_dual_derivative2 x)
+hyper_hyper_dual_derivatives Third x = value (hyper_hyper_dual_derivative3 x)
 
 -- a real part alone
 abbrev pub hyper_hyper_dual_from_re : Float → HyperHyperDual
@@ -157,12 +164,3 @@ hyper_hyper_dual_layout = record {
 -- the records that flat floats hold
 abbrev pub hyper_hyper_dual_records : List Float → List HyperHyperDual
 hyper_hyper_dual_records l = decode hyper_hyper_dual_layout l
-
--- a sine and a cosine
-abbrev pub hyper_hyper_dual_sin_cos : HyperHyperDual → HyperHyperDual → HyperHyperDualSinCos
-hyper_hyper_dual_sin_cos sin cos = record { sin = sin; cos = cos }
-
--- document 01's reading of an answer: the record, or the number that it is refused by
-abbrev pub outcome : HyperHyperDualAnswer → Outcome HyperHyperDual
-outcome (Value x) = value x
-outcome (Refused n) = refused n

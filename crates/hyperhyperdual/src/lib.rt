@@ -1,19 +1,21 @@
-// Hyper-hyper-dual numbers for third partial derivatives: datatypes/hyperhyperdual.rs. The operators of macros.rs are in operations.rt, the
-// functions of impl_derivatives.rs in functions.rt, records in flat floats in records.rt.
+// Hyper-hyper-dual numbers for third partial derivatives: datatypes/hyperhyperdual.rs. The rules of the record, its layout in flat floats
+// and its comparisons; what every record type has stands in the trait `Record`.
 
 #![tactic(auto)]
 
-mod functions;
-mod operations;
-mod records;
-
 ghost use Rattle.std.specs.Prelude.{◌≡◌};
-ghost use Rattle.hyperhyperdual.specs.Rules.{hyper_hyper_dual, hyper_hyper_dual_derivative1, hyper_hyper_dual_derivative2, hyper_hyper_dual_derivative3, hyper_hyper_dual_from_re, hyper_hyper_dual_chain, hyper_hyper_dual_mul, hyper_hyper_dual_div};
+ghost use Rattle.std.specs.Float.Ieee.{eq};
+ghost use Rattle.std.specs.Ordering.{float_partial_cmp, on};
+ghost use Rattle.std.specs.Float.Cmp.{on_floats_per, on_floats_po};
+ghost use Rattle.hyperhyperdual.specs.Rules.{hyper_hyper_dual, hyper_hyper_dual_derivative1, hyper_hyper_dual_derivative2, hyper_hyper_dual_derivative3, hyper_hyper_dual_derivatives, hyper_hyper_dual_algebra, hyper_hyper_dual_layout, hyper_hyper_dual_nderiv};
+ghost use Rattle.hyperhyperdual.specs.Laws.{hyper_hyper_dual_laws};
 
 use derivatives::Series;
-pub use records::{product, read, sum, write};
+use records::{Derivative, Record, ThirdDerivative};
+use refusals::Refusal;
+use std::cmp::Ordering;
 
-#[derive(Clone, Copy)]
+#[derive(Clone, Copy, Debug)]
 pub struct HyperHyperDual {
     // Real part of the hyper-hyper-dual number
     pub re: f64,
@@ -33,46 +35,7 @@ pub struct HyperHyperDual {
     pub eps1eps2eps3: f64,
 }
 
-// A record, or the number that a request is refused by.
-#[derive(Clone, Copy)]
-pub enum HyperHyperDualAnswer {
-    Value(HyperHyperDual),
-    Refused(u32),
-}
-
-// What `sin_cos` gives.
-#[derive(Clone, Copy)]
-pub struct HyperHyperDualSinCos {
-    pub sin: HyperHyperDual,
-    pub cos: HyperHyperDual,
-}
-
 impl HyperHyperDual {
-    pub const ZERO: HyperHyperDual = HyperHyperDual {
-        re: 0.0,
-        eps1: 0.0,
-        eps2: 0.0,
-        eps3: 0.0,
-        eps1eps2: 0.0,
-        eps1eps3: 0.0,
-        eps2eps3: 0.0,
-        eps1eps2eps3: 0.0,
-    };
-
-    pub const ONE: HyperHyperDual = HyperHyperDual {
-        re: 1.0,
-        eps1: 0.0,
-        eps2: 0.0,
-        eps3: 0.0,
-        eps1eps2: 0.0,
-        eps1eps3: 0.0,
-        eps2eps3: 0.0,
-        eps1eps2eps3: 0.0,
-    };
-
-    // The highest order of a derivative that the record carries.
-    pub const NDERIV: usize = 3;
-
     // Create a new hyper-hyper-dual number from its fields.
     pub fn new(
         re: f64,
@@ -121,11 +84,30 @@ impl HyperHyperDual {
         self.eps3 = 1.0;
         self
     }
+}
 
-    // Create a new hyper-hyper-dual number from the real part.
-    pub fn from_re(re: f64) -> Self
-        ensures { result ≡ hyper_hyper_dual_from_re re }
-    {
+impl Record for HyperHyperDual {
+    ghost algebra = { hyper_hyper_dual_algebra };
+
+    ghost layout = { hyper_hyper_dual_layout };
+
+    ghost derivatives = { hyper_hyper_dual_derivatives };
+
+    ghost NDERIV = { hyper_hyper_dual_nderiv };
+
+    ghost laws = { hyper_hyper_dual_laws };
+
+    const NDERIV: usize = 3;
+
+    fn width() -> usize {
+        8
+    }
+
+    fn re(self) -> f64 {
+        self.re
+    }
+
+    fn from_re(re: f64) -> Self {
         Self {
             re,
             eps1: 0.0,
@@ -138,30 +120,50 @@ impl HyperHyperDual {
         }
     }
 
-    /* chain rule */
-    fn chain_rule(self, f0: f64, f1: f64, f2: f64, f3: f64) -> Self
-        ensures { result ≡ hyper_hyper_dual_chain self f0 f1 f2 f3 }
-    {
+    fn with_re(self, re: f64) -> Self {
+        Self { re, ..self }
+    }
+
+    fn with_derivative(self, which: Derivative) -> Result<Self, Refusal> {
+        match which {
+            Derivative::First => Ok(self.derivative1()),
+            Derivative::Second => Ok(self.derivative2()),
+            Derivative::Third => Ok(self.derivative3()),
+            _ => Err(Refusal::WrongLength),
+        }
+    }
+
+    #[tactic(auto, unfolding(crate::specs::Rules::hyper_hyper_dual_add))]
+    fn add(self, other: Self) -> Self {
         Self {
-            re: f0,
-            eps1: f1 * self.eps1,
-            eps2: f1 * self.eps2,
-            eps3: f1 * self.eps3,
-            eps1eps2: f1 * self.eps1eps2 + f2 * self.eps1 * self.eps2,
-            eps1eps3: f1 * self.eps1eps3 + f2 * self.eps1 * self.eps3,
-            eps2eps3: f1 * self.eps2eps3 + f2 * self.eps2 * self.eps3,
-            eps1eps2eps3: f1 * self.eps1eps2eps3
-                + f2 * (self.eps1 * self.eps2eps3
-                    + self.eps2 * self.eps1eps3
-                    + self.eps3 * self.eps1eps2)
-                + f3 * self.eps1 * self.eps2 * self.eps3,
+            re: self.re + other.re,
+            eps1: self.eps1 + other.eps1,
+            eps2: self.eps2 + other.eps2,
+            eps3: self.eps3 + other.eps3,
+            eps1eps2: self.eps1eps2 + other.eps1eps2,
+            eps1eps3: self.eps1eps3 + other.eps1eps3,
+            eps2eps3: self.eps2eps3 + other.eps2eps3,
+            eps1eps2eps3: self.eps1eps2eps3 + other.eps1eps2eps3,
+        }
+    }
+
+    #[tactic(auto, unfolding(crate::specs::Rules::hyper_hyper_dual_sub))]
+    fn sub(self, other: Self) -> Self {
+        Self {
+            re: self.re - other.re,
+            eps1: self.eps1 - other.eps1,
+            eps2: self.eps2 - other.eps2,
+            eps3: self.eps3 - other.eps3,
+            eps1eps2: self.eps1eps2 - other.eps1eps2,
+            eps1eps3: self.eps1eps3 - other.eps1eps3,
+            eps2eps3: self.eps2eps3 - other.eps2eps3,
+            eps1eps2eps3: self.eps1eps2eps3 - other.eps1eps2eps3,
         }
     }
 
     /* product rule */
-    pub fn mul(self, rhs: HyperHyperDual) -> Self
-        ensures { result ≡ hyper_hyper_dual_mul self rhs }
-    {
+    #[tactic(auto, unfolding(crate::specs::Rules::hyper_hyper_dual_mul))]
+    fn mul(self, rhs: Self) -> Self {
         Self {
             re: self.re * rhs.re,
             eps1: self.eps1 * rhs.re + self.re * rhs.eps1,
@@ -191,10 +193,121 @@ impl HyperHyperDual {
     }
 
     // The product with the chain rule of the reciprocal. The source writes the derivatives of `recip` out here once more.
-    pub fn div(self, rhs: HyperHyperDual) -> Self
-        ensures { result ≡ hyper_hyper_dual_div self rhs }
-    {
-        let rec = Series::recip(rhs.re);
-        self.mul(rhs.chain_rule(rec.f0, rec.f1, rec.f2, rec.f3))
+    #[tactic(auto, unfolding(crate::specs::Rules::hyper_hyper_dual_div))]
+    fn div(self, rhs: Self) -> Self {
+        self.mul(rhs.chain(Series::recip(rhs.re)))
+    }
+
+    #[tactic(auto, unfolding(crate::specs::Rules::hyper_hyper_dual_neg))]
+    fn neg(self) -> Self {
+        Self {
+            re: -self.re,
+            eps1: -self.eps1,
+            eps2: -self.eps2,
+            eps3: -self.eps3,
+            eps1eps2: -self.eps1eps2,
+            eps1eps3: -self.eps1eps3,
+            eps2eps3: -self.eps2eps3,
+            eps1eps2eps3: -self.eps1eps2eps3,
+        }
+    }
+
+    #[tactic(auto, unfolding(crate::specs::Rules::hyper_hyper_dual_mul_float))]
+    fn mul_float(self, other: f64) -> Self {
+        Self {
+            re: self.re * other,
+            eps1: self.eps1 * other,
+            eps2: self.eps2 * other,
+            eps3: self.eps3 * other,
+            eps1eps2: self.eps1eps2 * other,
+            eps1eps3: self.eps1eps3 * other,
+            eps2eps3: self.eps2eps3 * other,
+            eps1eps2eps3: self.eps1eps2eps3 * other,
+        }
+    }
+
+    #[tactic(auto, unfolding(crate::specs::Rules::hyper_hyper_dual_div_float))]
+    fn div_float(self, other: f64) -> Self {
+        Self {
+            re: self.re / other,
+            eps1: self.eps1 / other,
+            eps2: self.eps2 / other,
+            eps3: self.eps3 / other,
+            eps1eps2: self.eps1eps2 / other,
+            eps1eps3: self.eps1eps3 / other,
+            eps2eps3: self.eps2eps3 / other,
+            eps1eps2eps3: self.eps1eps2eps3 / other,
+        }
+    }
+
+    /* chain rule */
+    #[tactic(auto, unfolding(crate::specs::Rules::hyper_hyper_dual_chain))]
+    fn chain(self, s: Series) -> Self {
+        Self {
+            re: s.f0,
+            eps1: s.f1 * self.eps1,
+            eps2: s.f1 * self.eps2,
+            eps3: s.f1 * self.eps3,
+            eps1eps2: s.f1 * self.eps1eps2 + s.f2 * self.eps1 * self.eps2,
+            eps1eps3: s.f1 * self.eps1eps3 + s.f2 * self.eps1 * self.eps3,
+            eps2eps3: s.f1 * self.eps2eps3 + s.f2 * self.eps2 * self.eps3,
+            eps1eps2eps3: s.f1 * self.eps1eps2eps3
+                + s.f2
+                    * (self.eps1 * self.eps2eps3
+                        + self.eps2 * self.eps1eps3
+                        + self.eps3 * self.eps1eps2)
+                + s.f3 * self.eps1 * self.eps2 * self.eps3,
+        }
+    }
+
+    #[tactic(auto, using(crate::proofs::Flat::hyper_hyper_dual_held, crate::proofs::Flat::hyper_hyper_dual_read))]
+    fn read(floats: &[f64], at: usize) -> Self {
+        let first = records::place(floats.len(), 8, at);
+        Self {
+            re: floats[first],
+            eps1: floats[first + 1],
+            eps2: floats[first + 2],
+            eps3: floats[first + 3],
+            eps1eps2: floats[first + 4],
+            eps1eps3: floats[first + 5],
+            eps2eps3: floats[first + 6],
+            eps1eps2eps3: floats[first + 7],
+        }
+    }
+
+    #[tactic(auto, using(crate::proofs::Flat::hyper_hyper_dual_held, crate::proofs::Flat::hyper_hyper_dual_written))]
+    fn write(floats: &mut [f64], at: usize, x: Self) {
+        let first = records::place(floats.len(), 8, at);
+        floats[first] = x.re;
+        floats[first + 1] = x.eps1;
+        floats[first + 2] = x.eps2;
+        floats[first + 3] = x.eps3;
+        floats[first + 4] = x.eps1eps2;
+        floats[first + 5] = x.eps1eps3;
+        floats[first + 6] = x.eps2eps3;
+        floats[first + 7] = x.eps1eps2eps3;
+    }
+}
+
+impl ThirdDerivative for HyperHyperDual {}
+
+// Comparisons are only made based on the real part.
+impl PartialEq for HyperHyperDual {
+    ghost eq = { on (λ x. x.re) eq };
+
+    ghost laws = { on_floats_per (λ x. x.re) };
+
+    fn eq(&self, other: &HyperHyperDual) -> bool {
+        self.re == other.re
+    }
+}
+
+impl PartialOrd for HyperHyperDual {
+    ghost partial_cmp = { on (λ x. x.re) float_partial_cmp };
+
+    ghost laws = { on_floats_po (λ x. x.re) };
+
+    fn partial_cmp(&self, other: &HyperHyperDual) -> Option<Ordering> {
+        self.re.partial_cmp(&other.re)
     }
 }

@@ -4,7 +4,7 @@
 #![tactic(auto)]
 
 ghost use Rattle.std.specs.Prelude.{◌≡◌};
-ghost use Rattle.refusals.specs.Refused.{number};
+ghost use Rattle.refusals.specs.Refused.{number, answer_number};
 
 // What a call is refused for. LU's refusal of a singular matrix, which has a column beside it, is `matrices::LuRefusal`'s.
 #[derive(Clone, Copy, Debug, PartialEq, Eq, Hash)]
@@ -57,36 +57,24 @@ impl Refusal {
     }
 }
 
+// The documents' number of an answer, 0 where the call is done.
+pub fn answer_number<T: Copy>(answer: Result<T, Refusal>) -> u32
+    ensures { result ≡ answer_number answer }
+{
+    match answer {
+        Ok(_) => 0,
+        Err(refusal) => refusal.number(),
+    }
+}
+
 // The number of LU's refusal of a matrix in which no pivot exceeds zero.
 pub const SINGULAR: u32 = 6;
 
-// Until every crate takes the enum.
-pub const TOO_LARGE: u32 = 1;
-
-pub const WRONG_LENGTH: u32 = 2;
-
-pub const EMPTY: u32 = 3;
-
-pub const LIMIT_TOO_LARGE: u32 = 4;
-
-pub const EXPONENT_TOO_LARGE: u32 = 5;
-
-pub const NOT_AN_ORDER: u32 = 7;
-
-pub const WRONG_SWAPS: u32 = 8;
-
-pub const UNREADABLE: u32 = 9;
-
-pub const UNREADABLE_MARKET: u32 = 10;
-
-pub const NOT_SQUARE: u32 = 11;
-
-pub const WRONG_ENTRIES: u32 = 12;
-
-pub const UNWRITABLE: u32 = 20;
-
 // The largest n of a matrix.
 pub const LARGEST_N: usize = 32;
+
+// The most floats of a record.
+pub const LARGEST_WIDTH: usize = 8;
 
 // The largest limit of sweeps.
 pub const LARGEST_LIMIT: usize = 1000;

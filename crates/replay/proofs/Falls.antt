@@ -1,16 +1,14 @@
 -- A replay ends: fewer cases are left after each. Assumes nothing.
-use Prim.Native.Nat.{ℕ, ◌<◌}
+use Prim.Native.Nat.{◌<◌}
 use mathlib.Core.Path.{◌≡◌}
-use mathlib.Core.Bool.{Bool, true, false, cond}
+use mathlib.Core.Bool.{Bool}
+use Rattle.std.proofs.Common.{Result, Ok, Err}
 use native.Mathlib.Omega.{arith}
-use Rattle.replay.specs.declared.tally.Compared.{Compared}
+use Rattle.replay.specs.declared.Cut.{Cut}
 use Rattle.replay.specs.declared.tally.Run.{Run}
 use Rattle.replay.specs.Tally.{after_of}
 
-either : (whole : Bool) (a b : Run) (n : ℕ) → a.left < n → b.left < n → (cond whole a b).left < n
-either true a b n h k = h
-either false a b n h k = k
-
-pub falls : (run next : Run) (case : Compared) → 0 < run.left → next ≡ after_of run case → next.left < run.left
+pub falls : (run next : Run) (case : Result Bool Cut) → 0 < run.left → next ≡ after_of run case → next.left < run.left
 unfolding after_of
-falls run next case h e = rw e (either case.whole _ _ run.left (omega arith) (omega arith))
+falls run next (Ok same) h e = rw e (omega arith)
+falls run next (Err _) h e = rw e h

@@ -1,3 +1,3 @@
--- Laws that the proofs cite, here and in the programs.
-pub mod Alike
+-- Laws that the proofs cite.
 pub mod Falls
+pub mod Pairs

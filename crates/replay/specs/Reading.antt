@@ -1,31 +1,34 @@
 -- A word read byte by byte. Definitions only.
-use Rattle.std.specs.Prelude.{ℕ, ◌+◌, ◌*◌, ◌%◌, ◌^◌, Bool, true, false, cond, not, ltb, eqb}
+use Rattle.std.specs.Prelude.{ℕ, ◌+◌, ◌*◌, ◌%◌, ◌^◌, Bool, ◌||◌, cond, ltb, eqb, Some, None}
 use Rattle.texts.specs.Bytes.{newline, space}
 use Rattle.texts.specs.Digits.{digit_value, is_digit}
-use Rattle.replay.specs.declared.Seen.{Seen}
-
-abbrev pub seen : ℕ → ℕ → Bool → Bool → Seen
-seen word digits comment done = record { word = word; digits = digits; comment = comment; done = done }
+use Rattle.replay.specs.declared.words.Word.{Word}
+use Rattle.replay.specs.declared.words.Seen.{Seen}
+use Rattle.replay.specs.declared.words.Seen.TheVariants.{Nothing, Comment, Digits, Ended}
 
 -- a digit joins the word, of which the last 16 digits stay; 17 digits stand for any number above 16
-abbrev pub joined : Seen → ℕ → Seen
-joined s d = seen (s.word % 2 ^ 60 * 16 + d) (cond (ltb s.digits 17) (s.digits + 1) 17) false false
+abbrev pub joined : Word → ℕ → Word
+joined w d = record { value = w.value % 2 ^ 60 * 16 + d; digits = cond (ltb w.digits 17) (w.digits + 1) 17 }
+
+-- what a word begins with
+abbrev pub no_digit : Word
+no_digit = record { value = 0; digits = 0 }
 
 -- the byte #
 abbrev pub number_sign : ℕ
 number_sign = 35
 
--- a byte that is no digit, outside a comment: a space or a newline ends a word that has begun, # begins a comment where none has, and any other
--- byte ends the reading with no digits
-unfoldable pub parted : Seen → ℕ → Seen
-parted s b =
-    cond (eqb b space) (seen s.word s.digits false (not (eqb s.digits 0)))
-    (cond (eqb b newline) (seen s.word s.digits false (not (eqb s.digits 0)))
-    (cond (eqb b number_sign) (seen 0 0 (eqb s.digits 0) (not (eqb s.digits 0)))
-    (seen 0 0 false true)))
+-- what ends a word
+abbrev pub is_blank : ℕ → Bool
+is_blank b = eqb b space || eqb b newline
 
--- what is seen after one byte more; a comment goes on to the line's end
+-- after a byte that ends no word: a digit joins the word, and any other ends the reading without one
+unfoldable pub word_after : Word → ℕ → Seen
+word_after w b = cond (is_digit 16 b) (Digits (joined w (digit_value b))) (Ended None)
+
+-- what is seen after one byte more: # begins a comment where no word has begun, and the comment goes on to the line's end
 unfoldable pub seen_after : Seen → ℕ → Seen
-seen_after s b =
-    cond s.comment (seen s.word s.digits (not (eqb b newline)) false)
-    (cond (is_digit 16 b) (joined s (digit_value b)) (parted s b))
+seen_after Nothing b = cond (is_blank b) Nothing (cond (eqb b number_sign) Comment (word_after no_digit b))
+seen_after Comment b = cond (eqb b newline) Nothing Comment
+seen_after (Digits w) b = cond (is_blank b) (Ended (Some w)) (word_after w b)
+seen_after (Ended w) b = Ended w

@@ -1,13 +1,11 @@
--- When two runs are the same. Definitions only.
-use Rattle.std.specs.Prelude.{ℕ, Bool, true, false, ◌&&◌, List, [], ◌∷◌, eqb}
+-- When what a call leaves is what a file has. Definitions only.
+use Rattle.std.specs.Prelude.{ℕ, Bool, List, eqb}
+use Rattle.std.specs.Cmp.Lexicographic.{pointwise}
 
--- as long as one another, and the test holds of the two at each place
-unfoldable pub alike : {A B : Type 0} → (A → B → Bool) → List A → List B → Bool
-alike p [] [] = true
-alike p [] (y ∷ m) = false
-alike p (x ∷ l) [] = false
-alike p (x ∷ l) (y ∷ m) = p x y && alike p l m
-
--- the same numbers: bytes, words, the entries of an order
+-- the same numbers: bytes, words, the entries of an order. As many as one another, and equal at each place
 abbrev pub same_numbers : List ℕ → List ℕ → Bool
-same_numbers l m = alike eqb l m
+same_numbers l m = pointwise eqb l m
+
+-- the words are those of the items, as many and in order
+abbrev pub has_words : {A : Type 0} → (A → ℕ) → List ℕ → List A → Bool
+has_words word words items = pointwise (λ w x. eqb w (word x)) words items

@@ -1,35 +1,63 @@
-// Whether two lent runs are the same: as long, and the same at each place.
-ghost use Rattle.std.specs.Prelude.{◌≡◌};
-ghost use Rattle.replay.specs.Same.{same_numbers};
+// What a call leaves, compared with the words of a file.
+ghost use Rattle.std.specs.Prelude.{◌≡◌, ℕ, length, replicate};
+ghost use Rattle.std.specs.Float.{binary64};
+ghost use Rattle.std.specs.Float.Ieee.{to_bits};
+ghost use Rattle.replay.specs.Same.{has_words};
 
-pub fn same_words(left: &[u64], right: &[u64]) -> bool
-    ensures { result ≡ same_numbers left.now right.now }
-{
-    if left.len() != right.len() {
-        return false;
-    }
-    let mut i = 0usize;
-    while i < left.len() {
-        if left[i] != right[i] {
-            return false;
-        }
-        i += 1;
-    }
-    true
+// What a file has a word of: a float, a byte, an entry of an order, a word itself.
+pub trait HasWord: Copy {
+    ghost word: { Self → ℕ };
+
+    fn word(self) -> u64
+        ensures { result ≡ word self };
 }
 
-pub fn same_text(text: &[u8], other: &[u8]) -> bool
-    ensures { result ≡ same_numbers text.now other.now }
+impl HasWord for f64 {
+    ghost word = { to_bits binary64 };
+
+    fn word(self) -> u64 {
+        real::word_of_float(self)
+    }
+}
+
+impl HasWord for u64 {
+    ghost word = { λ x. x };
+
+    fn word(self) -> u64 {
+        self
+    }
+}
+
+impl HasWord for usize {
+    ghost word = { λ x. x };
+
+    fn word(self) -> u64 {
+        self as u64
+    }
+}
+
+impl HasWord for u8 {
+    ghost word = { λ x. x };
+
+    fn word(self) -> u64 {
+        u64::from(self)
+    }
+}
+
+// Whether the words are those of the items, as many and in order.
+pub fn same_words<T: HasWord>(words: &[u64], items: &[T]) -> bool
+    ensures { result ≡ has_words T.word words.now items.now }
 {
-    if text.len() != other.len() {
-        return false;
-    }
-    let mut i = 0usize;
-    while i < text.len() {
-        if text[i] != other[i] {
-            return false;
-        }
-        i += 1;
-    }
-    true
+    words.len() == items.len()
+        && words
+            .iter()
+            .zip(items)
+            .all(|(word, item)| *word == item.word())
+}
+
+// Whether every item has the word.
+pub fn all_have<T: HasWord>(word: u64, items: &[T]) -> bool
+    ensures { result ≡ has_words T.word (replicate (length items.now) word) items.now }
+{
+    items.iter().all(|item| word == item.word())
 }

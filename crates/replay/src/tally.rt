@@ -1,172 +1,144 @@
 // Counting the cases of a file, and reporting the count.
-ghost use Rattle.std.specs.Prelude.{◌≡◌, false};
-ghost use Rattle.replay.specs.Tally.{one_more, tally, counted_of, begun_of, after_of};
+ghost use Rattle.std.specs.Prelude.{◌≡◌, ◌<◌, false, Result};
+ghost use Rattle.replay.specs.Tally.{tally, counted_of, begun_of, after_of};
 
-use super::{Byte, Place, Read};
+use super::{Cut, Reader};
+use std::fs::File;
+use std::io::Read;
 
 // The descriptor of standard output.
 const STDOUT: i32 = 1;
 
-// How many cases were compared, and how many differ.
+// How many cases were compared, and how many differ. A count that reaches the greatest number of 64 bits stays there.
 #[derive(Clone, Copy)]
 pub struct Tally {
     pub compared: u64,
     pub different: u64,
 }
 
-// A case: where the reader stands after it, whether it was read whole, and whether what the port left is what was recorded.
-#[derive(Clone, Copy)]
-pub struct Compared {
-    pub place: Place,
-    pub whole: bool,
-    pub same: bool,
-}
-
-// The cases of a file so far: where the reader stands, the count, and how many are left.
+// The cases of a file so far: their count, and how many are left.
 #[derive(Clone, Copy)]
 pub struct Run {
-    pub place: Place,
     pub tally: Tally,
     pub left: u64,
 }
 
-// A count that reaches the greatest number of 64 bits stays there.
-fn one_more(count: u64) -> u64
-    ensures { result ≡ one_more count }
-{
-    if count < u64::MAX { count + 1 } else { count }
-}
-
-// Nothing counted yet.
-pub fn none() -> Tally
-    ensures { result ≡ tally 0 0 }
-{
-    Tally {
-        compared: 0,
-        different: 0,
-    }
-}
-
-// One case more: the same or not.
-pub fn counted(t: Tally, same: bool) -> Tally
-    ensures { result ≡ counted_of t same }
-{
-    let compared = one_more(t.compared);
-    if same {
-        return Tally {
-            compared,
-            different: t.different,
-        };
-    }
-    Tally {
-        compared,
-        different: one_more(t.different),
-    }
-}
-
-// What comes before the cases: where it is not whole, it counts as a case that differs and no case is left.
-pub fn begun(run: Run, read: Read) -> Run
-    ensures { result ≡ begun_of run read }
-{
-    let place = read.place;
-    let tally = run.tally;
-    if read.whole {
-        return Run {
-            place,
-            tally,
-            left: run.left,
-        };
-    }
-    Run {
-        place,
-        tally: counted(tally, false),
-        left: 0,
-    }
-}
-
-// A case that could not be read.
-pub fn cut(place: Place) -> Compared
-    ensures { result ≡ record { place = place; whole = false; same = false } }
-{
-    Compared {
-        place,
-        whole: false,
-        same: false,
-    }
-}
-
-// One case more. One that was not read whole differs, and none is left after it.
-pub fn after(run: Run, case: Compared) -> Run
-    ensures { result ≡ after_of run case }
-{
-    let place = case.place;
-    let tally = run.tally;
-    if case.whole {
-        return Run {
-            place,
-            tally: counted(tally, case.same),
-            left: if run.left > 0 { run.left - 1 } else { 0 },
-        };
-    }
-    Run {
-        place,
-        tally: counted(tally, false),
-        left: 0,
-    }
-}
-
-// The number of cases, in eight digits: what a file begins with.
-pub fn begin(file: i32, buffer: &mut [u8; super::BUFFER]) -> Run {
-    let count = super::next_word(file, buffer, super::start());
-    let place = count.place;
-    let run = Run {
-        place,
-        tally: none(),
-        left: count.word,
-    };
-    begun(
-        run,
-        Read {
-            place,
-            whole: count.digits == 8,
-        },
-    )
-}
-
-// Whether the file has nothing more but newlines.
-fn at_end(file: i32, buffer: &mut [u8; super::BUFFER], place: Place) -> bool {
-    let mut here = place;
-    let mut turns = u64::MAX;
-    while turns > 0 {
-        let read = super::next_byte(file, buffer, here);
-        let Byte::Is(b, after) = read else {
-            return true;
-        };
-        if b != b'\n' {
-            return false;
+impl Tally {
+    // Nothing counted yet.
+    pub fn none() -> Tally
+        ensures { result ≡ tally 0 0 }
+    {
+        Tally {
+            compared: 0,
+            different: 0,
         }
-        here = after;
-        turns -= 1;
     }
-    false
+
+    // One case more: the same or not.
+    #[tactic(auto, unfolding(crate::specs::Tally::counted_of, crate::specs::Tally::one_more))]
+    pub fn count(&mut self, same: bool)
+        ensures { self.new ≡ counted_of self.old same }
+    {
+        self.compared = self.compared.saturating_add(1);
+        if !same {
+            self.different = self.different.saturating_add(1);
+        }
+    }
+
+    // Prints NAME: N compared, M different.
+    pub fn report(self, name: &str) {
+        io::write_all(STDOUT, name.as_bytes());
+        io::write_all(STDOUT, b": ");
+        io::print_decimal(STDOUT, self.compared);
+        io::write_all(STDOUT, b" compared, ");
+        io::print_decimal(STDOUT, self.different);
+        io::write_all(STDOUT, b" different\n");
+    }
 }
 
-// The count of a file whose cases have been read: what comes after the last of them is one more that differs.
-pub fn ended(file: i32, buffer: &mut [u8; super::BUFFER], run: Run) -> Tally {
-    let place = run.place;
-    let tally = run.tally;
-    if at_end(file, buffer, place) {
-        return tally;
+impl Run {
+    // What comes before the cases: where it is not whole, it counts as a case that differs and no case is left.
+    #[tactic(auto, unfolding(crate::specs::Tally::begun_of))]
+    pub fn begin(&mut self, read: Result<(), Cut>)
+        ensures { self.new ≡ begun_of self.old read }
+    {
+        if read.is_err() {
+            self.tally.count(false);
+            self.left = 0;
+        }
     }
-    counted(tally, false)
+
+    // One case more: the same or not. One that was not read whole differs, and none is left after it.
+    #[tactic(auto, unfolding(crate::specs::Tally::after_of))]
+    pub fn add(&mut self, case: Result<bool, Cut>)
+        ensures { self.new ≡ after_of self.old case }
+    {
+        match case {
+            Ok(same) => {
+                self.tally.count(same);
+                self.left = self.left.saturating_sub(1);
+            }
+            Err(Cut) => {
+                self.tally.count(false);
+                self.left = 0;
+            }
+        }
+    }
 }
 
-// Prints NAME: N compared, M different.
-pub fn report(name: &[u8], t: Tally) {
-    io::write_all(STDOUT, name);
-    io::write_all(STDOUT, b": ");
-    io::print_decimal(STDOUT, t.compared);
-    io::write_all(STDOUT, b" compared, ");
-    io::print_decimal(STDOUT, t.different);
-    io::write_all(STDOUT, b" different\n");
+impl<R: Read> Reader<R> {
+    // The number of cases, in eight digits: what a file begins with.
+    pub fn begin(&mut self) -> Run {
+        let mut count = [0u64; 1];
+        let read = self.read_words(8, &mut count);
+        let mut run = Run {
+            tally: Tally::none(),
+            left: count[0],
+        };
+        run.begin(read);
+        run
+    }
+
+    // The cases that are left, each read and compared by what is passed.
+    pub fn cases<F: FnMut(&mut Reader<R>) -> Result<bool, Cut>>(
+        &mut self,
+        run: &mut Run,
+        mut case: F,
+    )
+        requires { F.IsAlwaysCallable case }
+    {
+        while run.left > 0 {
+            run.add(case(self));
+        }
+    }
+
+    // The count of a file whose cases have been read: what comes after the last of them, but for newlines, is one more that differs.
+    pub fn end(&mut self, run: Run) -> Tally {
+        let mut tally = run.tally;
+        for _ in 0..u64::MAX {
+            match self.next_byte() {
+                Some(b'\n') => {}
+                Some(_) => break,
+                None => return tally,
+            }
+        }
+        tally.count(false);
+        tally
+    }
+}
+
+// Replays a file whose cases are each read and compared by what is passed, and reports it by a name.
+pub fn replay_file<F: FnMut(&mut Reader<File>) -> Result<bool, Cut>>(
+    rt: &HostRuntime,
+    path: &str,
+    name: &str,
+    case: F,
+) -> std::io::Result<()>
+    requires { F.IsAlwaysCallable case }
+{
+    let mut reader = Reader::new(File::open(rt, path)?);
+    let mut run = reader.begin();
+    reader.cases(&mut run, case);
+    reader.end(run).report(name);
+    Ok(())
 }

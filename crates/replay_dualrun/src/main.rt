@@ -2,55 +2,27 @@
 
 #![tactic(auto)]
 
-use replay::tally::{Compared, Tally};
-use replay::{Place, bytes, same, tally};
+use replay::{Cut, Reader, tally};
 use std::fs::File;
-use std::os::fd::AsRawFd;
 
-// One case: the lengths of the input and the output, the input, the output.
-fn case(file: i32, buffer: &mut [u8; replay::BUFFER], place: Place) -> Compared {
-    let mut text = io::large_buffer();
-    let mut wanted = io::large_buffer();
-    let mut out = io::large_buffer();
+// The most bytes of an input, and of an output.
+const MOST_BYTES: usize = 65536;
+
+// One case: the lengths of the input and the output, the input, the output. It is read to its end before it is told whether it is whole.
+fn case(reader: &mut Reader<File>) -> Result<bool, Cut> {
     let mut lengths = [0u64; 2];
-    let read = replay::read_words(file, buffer, place, 8, &mut lengths);
-    let place = read.place;
-    let given = bytes::read_text(file, buffer, place, lengths[0], &mut text);
-    let place = given.place;
-    let n = given.count;
-    let recorded = bytes::read_text(file, buffer, place, lengths[1], &mut wanted);
-    let place = recorded.place;
-    let m = recorded.count;
-    let written = dualrun_text::run(&text[..n], &mut out);
-    Compared {
-        place,
-        whole: read.whole && given.whole && recorded.whole,
-        same: same::same_text(&wanted[..m], &out[..written]),
-    }
-}
-
-// Every case.
-fn cases(file: i32) -> Tally {
-    let mut buffer = [0u8; replay::BUFFER];
-    let mut run = tally::begin(file, &mut buffer);
-    while run.left > 0 {
-        let place = run.place;
-        let c = case(file, &mut buffer, place);
-        run = tally::after(run, c);
-    }
-    tally::ended(file, &mut buffer, run)
-}
-
-// Replays a file, and reports it by a name.
-fn replay_file(rt: &HostRuntime, path: &str, name: &[u8]) -> std::io::Result<()> {
-    let file = File::open(rt, path)?;
-    let t = cases(file.as_raw_fd());
-    tally::report(name, t);
-    Ok(())
+    let mut input = [0u8; MOST_BYTES];
+    let mut output = [0u8; MOST_BYTES];
+    let mut out = [0u8; MOST_BYTES];
+    let read = reader.read_words(8, &mut lengths);
+    let text = reader.read_text(lengths[0], &mut input);
+    let wanted = reader.read_text(lengths[1], &mut output);
+    read?;
+    let written = dualrun_text::run(text?, &mut out);
+    Ok(wanted? == &out[..written])
 }
 
 fn main(rt: HostRuntime) -> std::io::Result<()> {
-    replay_file(&rt, "dualrun.txt", b"dualrun")?;
-    replay_file(&rt, "damaged.txt", b"damaged")?;
-    Ok(())
+    tally::replay_file(&rt, "dualrun.txt", "dualrun", case)?;
+    tally::replay_file(&rt, "damaged.txt", "damaged", case)
 }

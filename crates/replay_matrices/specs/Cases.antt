@@ -5,16 +5,12 @@ use Rattle.std.specs.Float.Ieee.{to_bits}
 use Rattle.algebra.specs.Outcome.{Outcome, value, refused}
 use Rattle.matrices.specs.declared.LuAnswer.{LuAnswer}
 use Rattle.matrices.specs.declared.LuAnswer.TheVariants as lu
-use Rattle.replay.specs.Same.{alike, same_numbers}
+use Rattle.replay.specs.Same.{has_words, same_numbers}
 use Rattle.replay_matrices.specs.declared.Numbers.{Numbers}
 
--- the word of the float: a NaN's is 7ff8000000000000
-abbrev pub is_word_of : ℕ → Float → Bool
-is_word_of w x = eqb w (to_bits binary64 x)
-
--- the words are those of the floats, as many and in order
+-- the words are those of the floats, as many and in order; a NaN's is 7ff8000000000000
 abbrev pub same_floats : List ℕ → List Float → Bool
-same_floats words floats = alike is_word_of words floats
+same_floats words floats = has_words (to_bits binary64) words floats
 
 -- every number is 0; every float is +0.0
 abbrev pub zero_numbers : List ℕ → Bool

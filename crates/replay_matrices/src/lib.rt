@@ -3,21 +3,19 @@
 
 #![tactic(auto)]
 
-ghost use Rattle.std.specs.Prelude.{◌≡◌, List, ◌*◌, ◌≤◌, length, get_or};
-ghost use Rattle.std.specs.Float.{binary64};
-ghost use Rattle.std.specs.Float.Ieee.{of_bits};
+ghost use Rattle.std.specs.Prelude.{◌≡◌, ◌*◌, ◌≤◌, length, get_or};
 ghost use Rattle.refusals.specs.Largest as largest;
 ghost use Rattle.algebra.specs.Flat.{tabulate};
 ghost use Rattle.algebra.specs.Outcome.{map_outcome};
 ghost use Rattle.matrices.specs.Answers.{solve_outcome};
-ghost use Rattle.replay.specs.Same.{same_numbers};
 ghost use Rattle.replay_matrices.specs.Room.{widest, most_floats, most_in_row};
-ghost use Rattle.replay_matrices.specs.Cases.{same_floats, zero_numbers, zero_floats, lu_numbers, same_lu, same_outcome};
+ghost use Rattle.replay_matrices.specs.Cases.{lu_numbers, same_lu, same_outcome};
 
 use matrices::{LuAnswer, SolveAnswer};
+use replay::same::{all_have, same_words};
 
 // Document 01's number, and the swap count or the column that stands beside it.
-#[derive(Clone, Copy)]
+#[derive(Clone, Copy, PartialEq, Eq)]
 pub struct Numbers {
     pub number: u64,
     pub swaps_or_column: u64,
@@ -46,87 +44,13 @@ pub fn floats_in_row(n: usize, width: usize) -> usize
     n * width
 }
 
-// Word number i, 0 where there is none.
-fn word_at(words: &[u64], i: usize) -> u64
-    ensures { result ≡ get_or words.now i 0 }
-{
-    if i < words.len() {
-        return words[i];
-    }
-    0
-}
-
-// The words as the entries of an order, as many as are lent.
+// The words as the entries of an order, as many as are lent: 0 where there is no word.
 pub fn order_of(words: &[u64], order: &mut [usize])
     ensures { order.new ≡ tabulate (λ i. get_or words.now i 0) (length order.old) 0 }
 {
-    let mut i = 0usize;
-    while i < order.len() {
-        order[i] = word_at(words, i) as usize;
-        i += 1;
+    for (i, entry) in order.iter_mut().enumerate() {
+        *entry = words.get(i).copied().unwrap_or(0) as usize;
     }
-}
-
-// Whether the words are those of the floats.
-pub fn same_floats(words: &[u64], floats: &[f64]) -> bool
-    ensures { result ≡ same_floats words.now floats.now }
-{
-    if words.len() != floats.len() {
-        return false;
-    }
-    let mut i = 0usize;
-    while i < words.len() {
-        if words[i] != real::word_of_float(floats[i]) {
-            return false;
-        }
-        i += 1;
-    }
-    true
-}
-
-// Whether the numbers are those of the order.
-pub fn same_order(numbers: &[u64], order: &[usize]) -> bool
-    ensures { result ≡ same_numbers numbers.now order.now }
-{
-    if numbers.len() != order.len() {
-        return false;
-    }
-    let mut i = 0usize;
-    while i < numbers.len() {
-        if numbers[i] != order[i] as u64 {
-            return false;
-        }
-        i += 1;
-    }
-    true
-}
-
-// Whether every float is +0.0.
-pub fn zero_floats(floats: &[f64]) -> bool
-    ensures { result ≡ zero_floats floats.now }
-{
-    let mut i = 0usize;
-    while i < floats.len() {
-        if real::word_of_float(floats[i]) != 0 {
-            return false;
-        }
-        i += 1;
-    }
-    true
-}
-
-// Whether every entry is 0.
-pub fn zero_order(order: &[usize]) -> bool
-    ensures { result ≡ zero_numbers order.now }
-{
-    let mut i = 0usize;
-    while i < order.len() {
-        if order[i] != 0 {
-            return false;
-        }
-        i += 1;
-    }
-    true
 }
 
 // What LU answers, as two numbers.
@@ -146,6 +70,7 @@ pub fn lu_numbers(answer: LuAnswer) -> Numbers
 }
 
 // Whether LU answers the file's numbers and leaves the file's order and factors, or zeros where the file has a refusal.
+#[tactic(auto, unfolding(crate::specs::Cases::same_lu))]
 pub fn same_lu(
     wanted: Numbers,
     numbers: &[u64],
@@ -156,17 +81,14 @@ pub fn same_lu(
 ) -> bool
     ensures { result ≡ same_lu wanted numbers.now words.now (lu_numbers answer) order.now factors.now }
 {
-    let got = lu_numbers(answer);
-    if wanted.number != got.number {
+    if wanted != lu_numbers(answer) {
         return false;
     }
-    if wanted.swaps_or_column != got.swaps_or_column {
-        return false;
+    if wanted.number == 0 {
+        same_words(numbers, order) && same_words(words, factors)
+    } else {
+        all_have(0, order) && all_have(0, factors)
     }
-    if wanted.number != 0 {
-        return zero_order(order) && zero_floats(factors);
-    }
-    same_order(numbers, order) && same_floats(words, factors)
 }
 
 // Whether solve or inverse is done and leaves the file's floats.
@@ -174,7 +96,7 @@ pub fn same_solved(words: &[u64], answer: SolveAnswer, left: &[f64]) -> bool
     ensures { result ≡ same_outcome words.now (map_outcome (λ _. left.now) (solve_outcome answer)) }
 {
     match answer {
-        SolveAnswer::Done => same_floats(words, left),
+        SolveAnswer::Done => same_words(words, left),
         SolveAnswer::Refused { number } => false,
     }
 }

@@ -1,2 +1,3 @@
 -- Laws that the five records' proofs cite.
 mod Answered
+mod Ordered

@@ -1,23 +1,112 @@
 // The records' own methods, where a call by number reaches what they do by another name: constants, scale, recip, inv, sqrt and the predicates. Each is asked for
-// what the file has.
+// what the file has, over any record.
 
 #![tactic(auto)]
 
-pub mod of_dual;
-pub mod of_dual2;
-pub mod of_dual3;
-pub mod of_hyperdual;
-pub mod of_hyperhyperdual;
-
-ghost use Rattle.std.specs.Prelude.{◌≡◌, [], ◌∷◌, cond};
+ghost use Rattle.std.specs.Prelude.{◌≡◌, [], ◌∷◌, cond, refl};
+ghost use Rattle.std.specs.Float.Ieee.{eq};
+ghost use Rattle.std.specs.Ordering.{float_partial_cmp};
+ghost use Rattle.algebra.specs.Flat.{record_at};
+ghost use Rattle.floats.specs.Words.{floats_of};
 ghost use Rattle.replay.specs.Same.{same_numbers};
+ghost use Rattle.replay_matrices.specs.Cases.{same_floats};
+ghost use Rattle.replay_methods.specs.Methods.{float_at, same_method};
+
+use dual::Dual;
+use dual2::Dual2;
+use dual3::Dual3;
+use floats::words;
+use hyperdual::HyperDual;
+use hyperhyperdual::HyperHyperDual;
+use records::Record;
+use refusals::LARGEST_WIDTH;
+use replay::same::same_words;
+
+// A record whose comparisons are those of its real part.
+pub trait Compared: Record + PartialOrd {
+    ghost equal: { (x y : Self) → Self.PartialEq.eq x y ≡ eq (Self.algebra.re x) (Self.algebra.re y) };
+
+    ghost ordered: { (x y : Self) → Self.PartialOrd.partial_cmp x y ≡ float_partial_cmp (Self.algebra.re x) (Self.algebra.re y) };
+}
+
+impl Compared for Dual {
+    ghost equal = { λ x y. refl };
+
+    ghost ordered = { λ x y. refl };
+}
+
+impl Compared for Dual2 {
+    ghost equal = { λ x y. refl };
+
+    ghost ordered = { λ x y. refl };
+}
+
+impl Compared for Dual3 {
+    ghost equal = { λ x y. refl };
+
+    ghost ordered = { λ x y. refl };
+}
+
+impl Compared for HyperDual {
+    ghost equal = { λ x y. refl };
+
+    ghost ordered = { λ x y. refl };
+}
+
+impl Compared for HyperHyperDual {
+    ghost equal = { λ x y. refl };
+
+    ghost ordered = { λ x y. refl };
+}
 
 // Whether the file has 1 for what holds, 0 for what does not.
-pub(crate) fn same_truth(wanted: &[u64], holds: bool) -> bool
+fn same_truth(wanted: &[u64], holds: bool) -> bool
     ensures { result ≡ same_numbers wanted.now (cond holds 1 0 ∷ []) }
 {
-    if holds {
-        return replay::same::same_words(wanted, &[1]);
+    same_words(wanted, &[u64::from(holds)])
+}
+
+// Whether the file has the parts of a record.
+fn same_record<R: Record>(wanted: &[u64], x: R) -> bool
+    ensures { result ≡ same_floats wanted.now (R.layout.parts x) }
+{
+    let mut parts = [0.0; LARGEST_WIDTH];
+    let parts = &mut parts[..R::width()];
+    R::write(parts, 0, x);
+    same_words(wanted, parts)
+}
+
+#[tactic(auto, unfolding(crate::specs::Methods::same_method))]
+fn same_method<R: Compared>(function: u64, x: R, y: R, a: f64, wanted: &[u64]) -> bool
+    ensures { result ≡ same_method R.algebra R.layout function x y a wanted.now }
+{
+    match function {
+        0x01 => same_record(wanted, R::zero()),
+        0x02 => same_record(wanted, R::one()),
+        0x12 => same_record(wanted, x.scale(a)),
+        0x18 => same_record(wanted, x.recip()),
+        0x19 => same_record(wanted, x.inv()),
+        0x1a => same_record(wanted, x.sqrt()),
+        0x3b => same_truth(wanted, x == y),
+        0x3c => same_truth(wanted, x < y),
+        0x3d => same_truth(wanted, x <= y),
+        0x3e => same_truth(wanted, x > y),
+        0x3f => same_truth(wanted, x >= y),
+        0x40 => same_truth(wanted, x.is_negative()),
+        0x41 => same_truth(wanted, x.is_positive()),
+        0x42 => same_truth(wanted, x.is_zero()),
+        0x43 => same_truth(wanted, x.is_one()),
+        _ => true,
     }
-    replay::same::same_words(wanted, &[0])
+}
+
+// Whether the method of that function, of the records that the words hold, gives the file's answer.
+pub fn same<R: Compared>(function: u64, records: &[u64], floats: &[u64], wanted: &[u64]) -> bool
+    ensures { result ≡ same_method R.algebra R.layout function (record_at R.layout (floats_of records.now) 0) (record_at R.layout (floats_of records.now) 1) (float_at floats.now 0) wanted.now }
+{
+    let mut lent = [0.0; 2 * LARGEST_WIDTH];
+    words::read(records, &mut lent);
+    let x = R::read(&lent, 0);
+    let y = R::read(&lent, 1);
+    same_method(function, x, y, words::part(floats, 0), wanted)
 }

@@ -1,3 +1,2 @@
--- What comes of a call, and how much is lent to it. Definitions only.
+-- What comes of a call. Definitions only.
 pub mod Outcome
-pub mod Lent

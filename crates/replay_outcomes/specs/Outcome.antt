@@ -1,8 +1,7 @@
 -- What comes of a call, and one word of many. Definitions only.
-use Rattle.std.specs.Prelude.{ℕ, ◌*◌, ◌/◌, ◌%◌, ◌^◌, Bool, ◌&&◌, List, [], ◌∷◌, eqb, Float}
+use Rattle.std.specs.Prelude.{ℕ, ◌*◌, ◌/◌, ◌%◌, ◌^◌, Bool, ◌&&◌, List, eqb}
+use Rattle.std.specs.List.{fold}
 use Rattle.std.specs.Int.Bits.{bit_xor}
-use Rattle.std.specs.Float.{binary64}
-use Rattle.std.specs.Float.Ieee.{to_bits}
 use Rattle.replay_outcomes.specs.declared.Outcome.{Outcome}
 
 -- the same number, the same beside it, and the same word of what was lent
@@ -14,12 +13,5 @@ unfoldable pub joined : ℕ → ℕ → ℕ
 joined before word = bit_xor (bit_xor (before % 2 ^ 31 * 2 ^ 33) (before / 2 ^ 31)) word
 
 -- so do all of a list, the first first
-unfoldable pub joined_all : {A : Type 0} → (A → ℕ) → ℕ → List A → ℕ
-joined_all f before [] = before
-joined_all f before (x ∷ l) = joined_all f (joined before (f x)) l
-
-abbrev pub joined_words : ℕ → List ℕ → ℕ
-joined_words before l = joined_all (λ (word : ℕ). word) before l
-
-abbrev pub joined_floats : ℕ → List Float → ℕ
-joined_floats before l = joined_all (to_bits binary64) before l
+abbrev pub joined_all : {A : Type 0} → (A → ℕ) → ℕ → List A → ℕ
+joined_all f before l = fold (λ so_far x. joined so_far (f x)) before l

@@ -1,6 +1,8 @@
 // What is lent holds before a call, and one word of what it holds after.
 ghost use Rattle.std.specs.Prelude.{◌≡◌};
-ghost use Rattle.replay_outcomes.specs.Outcome.{joined, joined_words, joined_floats};
+ghost use Rattle.replay_outcomes.specs.Outcome.{joined, joined_all};
+
+use replay::same::HasWord;
 
 // The numbers of an input, one after another.
 fn next(x: u64) -> u64 {
@@ -15,89 +17,68 @@ fn value(style: u64, x: u64) -> f64 {
     ((x % 31) as u32) as f64 - 15.0
 }
 
+// The input of a style that begins after a number, as floats.
 pub fn floats(style: u64, start: u64, out: &mut [f64]) {
     let mut x = start;
-    let mut i = 0usize;
-    while i < out.len() {
+    for float in out.iter_mut() {
         x = next(x);
-        out[i] = value(style, x);
-        i += 1;
+        *float = value(style, x);
     }
 }
 
 // The same by their words.
 pub fn words(style: u64, start: u64, out: &mut [u64]) {
     let mut x = start;
-    let mut i = 0usize;
-    while i < out.len() {
+    for word in out.iter_mut() {
         x = next(x);
-        out[i] = real::word_of_float(value(style, x));
-        i += 1;
+        *word = real::word_of_float(value(style, x));
     }
 }
 
-// Entry i of an order of so many: i, but at one and other the other of the two, and at place a value. Places that are not there change nothing.
-fn entry(i: u64, length: u64, one: u64, other: u64, place: u64, value: u64) -> usize {
-    if i == place {
-        return value as usize;
-    }
-    if i == one && other < length {
-        return other as usize;
-    }
-    if i == other && one < length {
-        return one as usize;
-    }
-    i as usize
+// How an order differs from that in which entry i is i: two entries that are exchanged, and then one that is set. Places that are not there change nothing.
+#[derive(Clone, Copy)]
+pub struct Order {
+    pub one: u64,
+    pub other: u64,
+    pub place: u64,
+    pub value: u64,
 }
 
-pub fn order(one: u64, other: u64, place: u64, value: u64, out: &mut [usize]) {
-    let length = out.len() as u64;
-    let mut i = 0usize;
-    while i < out.len() {
-        out[i] = entry(i as u64, length, one, other, place, value);
-        i += 1;
+impl Order {
+    // Entry i of so many.
+    fn entry(self, i: u64, length: u64) -> u64 {
+        if i == self.place {
+            self.value
+        } else if i == self.one && self.other < length {
+            self.other
+        } else if i == self.other && self.one < length {
+            self.one
+        } else {
+            i
+        }
+    }
+
+    pub fn fill(self, out: &mut [usize]) {
+        let length = out.len() as u64;
+        for (i, entry) in out.iter_mut().enumerate() {
+            *entry = self.entry(i as u64, length) as usize;
+        }
     }
 }
 
 // A word joins what came before it, which is turned by 33 places.
-fn join(so_far: u64, word: u64) -> u64
+#[tactic(auto, unfolding(crate::specs::Outcome::joined))]
+fn joined(so_far: u64, word: u64) -> u64
     ensures { result ≡ joined so_far word }
 {
     so_far % 0x8000_0000 * 0x2_0000_0000 ^ so_far / 0x8000_0000 ^ word
 }
 
-pub fn join_floats(start: u64, floats: &[f64]) -> u64
-    ensures { result ≡ joined_floats start floats.now }
+// One word of all that is lent, after what came before it.
+pub fn join<T: HasWord>(start: u64, items: &[T]) -> u64
+    ensures { result ≡ joined_all T.word start items.now }
 {
-    let mut so_far = start;
-    let mut i = 0usize;
-    while i < floats.len() {
-        so_far = join(so_far, real::word_of_float(floats[i]));
-        i += 1;
-    }
-    so_far
-}
-
-pub fn join_words(start: u64, words: &[u64]) -> u64
-    ensures { result ≡ joined_words start words.now }
-{
-    let mut so_far = start;
-    let mut i = 0usize;
-    while i < words.len() {
-        so_far = join(so_far, words[i]);
-        i += 1;
-    }
-    so_far
-}
-
-pub fn join_order(start: u64, order: &[usize]) -> u64
-    ensures { result ≡ joined_words start order.now }
-{
-    let mut so_far = start;
-    let mut i = 0usize;
-    while i < order.len() {
-        so_far = join(so_far, order[i] as u64);
-        i += 1;
-    }
-    so_far
+    items
+        .iter()
+        .fold(start, |so_far, item| joined(so_far, item.word()))
 }

@@ -10,7 +10,7 @@ ghost use Rattle.std.specs.Prelude.{◌≡◌};
 ghost use Rattle.replay_outcomes.specs.Outcome.{same_outcome};
 
 // What comes of a call: its number, what stands beside it, and one word of all that was lent to be written.
-#[derive(Clone, Copy)]
+#[derive(Clone, Copy, PartialEq, Eq)]
 pub struct Outcome {
     pub number: u64,
     pub beside: u64,
@@ -18,14 +18,9 @@ pub struct Outcome {
 }
 
 // Whether what came of a call is what was recorded.
+#[tactic(auto, unfolding(crate::specs::Outcome::same_outcome))]
 pub fn same(wanted: Outcome, got: Outcome) -> bool
     ensures { result ≡ same_outcome wanted got }
 {
-    if wanted.number != got.number {
-        return false;
-    }
-    if wanted.beside != got.beside {
-        return false;
-    }
-    wanted.digest == got.digest
+    wanted == got
 }

@@ -1,43 +1,15 @@
 -- The five record types, and what each answers by function number. Definitions only.
 use Rattle.std.specs.Prelude.{ℕ, ◌%◌, Bool, cond, ◌&&◌, List, eqb, ltb, ℤ, get_or, set, Float}
-use Rattle.calls.specs.Called.{called_of, summed_of, multiplied_of, lent_record}
-use Rattle.calls.specs.Called as calls
+use Rattle.calls.specs.Called.{lent_record}
 use Rattle.floats.specs.Words.{first_floats, words_of}
-use Rattle.dual_calls.specs.Kind.{dual_kind}
-use Rattle.dual2_calls.specs.Kind.{dual2_kind}
-use Rattle.dual3_calls.specs.Kind.{dual3_kind}
-use Rattle.hyperdual_calls.specs.Kind.{hyper_dual_kind}
-use Rattle.hyperhyperdual_calls.specs.Kind.{hyper_hyper_dual_kind}
+use Rattle.kinds.specs.Kinds.{over, called_by, summed_by, multiplied_by}
+use Rattle.kinds.specs.declared.Kind.{Kind}
 use Rattle.replay_methods.specs.Methods.{float_at, same_method}
 use Rattle.replay_table.specs.Table.{truth_of, same_answer}
-use Rattle.replay_records.specs.declared.kinds.Kind.{Kind}
-use Rattle.replay_records.specs.declared.kinds.Kind.TheVariants.{Dual, Dual2, Dual3, HyperDual, HyperHyperDual}
-
--- what f makes of a record type
-abbrev pub by_kind : {T : Type 0} → ((R : Type 0) → calls.Kind R → T) → Kind → T
-by_kind f Dual = f _ dual_kind
-by_kind f Dual2 = f _ dual2_kind
-by_kind f Dual3 = f _ dual3_kind
-by_kind f HyperDual = f _ hyper_dual_kind
-by_kind f HyperHyperDual = f _ hyper_hyper_dual_kind
-
--- what the call of a function, the sum and the product of a run leave
-abbrev pub called_by : Kind → ℕ → ℤ → List ℕ → List ℕ → List ℕ → ℕ × List ℕ
-called_by kind function exponent records floats out = by_kind (λ R K. called_of K function exponent records floats out) kind
-
-abbrev pub summed_by : Kind → List Float → List Float → ℕ × List Float
-summed_by kind run out = by_kind (λ R K. summed_of K run out) kind
-
-abbrev pub multiplied_by : Kind → List Float → List Float → ℕ × List Float
-multiplied_by kind run out = by_kind (λ R K. multiplied_of K run out) kind
 
 -- how many derivatives a record carries
 abbrev pub nderiv_of : Kind → ℕ
-nderiv_of Dual = 1
-nderiv_of Dual2 = 2
-nderiv_of Dual3 = 3
-nderiv_of HyperDual = 2
-nderiv_of HyperHyperDual = 3
+nderiv_of kind = over (λ R K. K.nderiv) kind
 
 -- the sum (39) or the product of a run of so many floats, as words
 unfoldable pub joined_of : Kind → ℕ → List ℕ → ℕ → List Float → ℕ × List ℕ
@@ -58,7 +30,7 @@ answer_of kind function exponent records floats count left out =
 
 -- what the record's own method gives, where the function has one beside its call, is the recorded answer
 abbrev pub same_method_of : Kind → ℕ → List ℕ → List ℕ → List ℕ → Bool
-same_method_of kind function records floats words = by_kind (λ R K. same_method K.algebra K.layout function (lent_record K records 0) (lent_record K records 1) (float_at floats 0) words) kind
+same_method_of kind function records floats words = over (λ R K. same_method K.algebra K.layout function (lent_record K records 0) (lent_record K records 1) (float_at floats 0) words) kind
 
 -- the recorded number and words are those of the answer, and of the method; a function's number has two digits
 unfoldable pub same_recorded : Kind → ℕ → ℤ → List ℕ → List ℕ → ℕ → List ℕ → ℕ → List Float → List ℕ → Bool

@@ -1,11 +1,17 @@
 // What a record type answers to a case, by its function's number (oracle/README.md), and whether it is what the file has.
 ghost use Rattle.std.specs.Prelude.{◌≡◌, ◌&&◌, ◌<◌, length};
+ghost use Rattle.refusals.specs.Refused.{answer_number};
 ghost use Rattle.replay_table.specs.Table.{same_answer};
 ghost use Rattle.replay_records.specs.Kinds.{joined_of, answer_of, same_method_of};
 
-use crate::kinds;
-use crate::kinds::Kind;
+use dual::Dual;
+use dual2::Dual2;
+use dual3::Dual3;
 use floats::words;
+use hyperdual::HyperDual;
+use hyperhyperdual::HyperHyperDual;
+use kinds::Kind;
+use refusals::Refusal;
 
 const NDERIV: u32 = 0x03;
 
@@ -19,6 +25,7 @@ const PREDICATES: u32 = 0x3b;
 const LAST_PREDICATE: u32 = 0x43;
 
 // The sum or the product of a run, in lent floats.
+#[tactic(auto, unfolding(crate::specs::Kinds::joined_of))]
 fn joined(
     kind: Kind,
     function: u32,
@@ -26,22 +33,22 @@ fn joined(
     run: &mut [f64],
     left: &mut [f64],
     out: &mut [u64],
-) -> u32
+) -> Result<(), Refusal>
     requires { length out.old ≡ length left.old }
-    ensures { (result, out.new) ≡ joined_of kind function records.now (length run.old) left.old }
+    ensures { (answer_number result, out.new) ≡ joined_of kind function records.now (length run.old) left.old }
 {
     words::read(records, run);
-    if function == SUM {
-        let number = kinds::sum(kind, run, left);
-        words::put(left, out);
-        return number;
-    }
-    let number = kinds::product(kind, run, left);
+    let answer = if function == SUM {
+        kind.sum(run, left)
+    } else {
+        kind.product(run, left)
+    };
     words::put(left, out);
-    number
+    answer
 }
 
-// What a function answers: its number, and its words in out.
+// What a function answers, and its words in out.
+#[tactic(auto, unfolding(crate::specs::Kinds::answer_of))]
 pub(crate) fn answer(
     kind: Kind,
     function: u32,
@@ -51,30 +58,39 @@ pub(crate) fn answer(
     run: &mut [f64],
     left: &mut [f64],
     out: &mut [u64],
-) -> u32
+) -> Result<(), Refusal>
     requires out_len { length out.old ≡ length left.old }
     requires out_nonzero { 0 < length out.old }
-    ensures { (result, out.new) ≡ answer_of kind function exponent records.now floats.now (length run.old) left.old out.old }
+    ensures { (answer_number result, out.new) ≡ answer_of kind function exponent records.now floats.now (length run.old) left.old out.old }
 {
-    if function == NDERIV {
-        out[0] = kinds::nderiv(kind);
-        return 0;
+    match function {
+        NDERIV => {
+            out[0] = kind.nderiv() as u64;
+            Ok(())
+        }
+        SUM | PRODUCT => joined(kind, function, records, run, left, out),
+        PREDICATES..=LAST_PREDICATE => {
+            let answer = kind.call(function, exponent, records, floats, out);
+            out[0] = replay_table::truth(out[0]);
+            answer
+        }
+        _ => kind.call(function, exponent, records, floats, out),
     }
-    if function == SUM {
-        return joined(kind, function, records, run, left, out);
+}
+
+// Whether the record's own method, where the function has one beside its call, gives the file's answer.
+fn same_method(kind: Kind, function: u64, records: &[u64], floats: &[u64], wanted: &[u64]) -> bool
+    ensures { result ≡ same_method_of kind function records.now floats.now wanted.now }
+{
+    match kind {
+        Kind::Dual => replay_methods::same::<Dual>(function, records, floats, wanted),
+        Kind::Dual2 => replay_methods::same::<Dual2>(function, records, floats, wanted),
+        Kind::Dual3 => replay_methods::same::<Dual3>(function, records, floats, wanted),
+        Kind::HyperDual => replay_methods::same::<HyperDual>(function, records, floats, wanted),
+        Kind::HyperHyperDual => {
+            replay_methods::same::<HyperHyperDual>(function, records, floats, wanted)
+        }
     }
-    if function == PRODUCT {
-        return joined(kind, function, records, run, left, out);
-    }
-    let number = kinds::call(kind, function, exponent, records, floats, out);
-    if function < PREDICATES {
-        return number;
-    }
-    if LAST_PREDICATE < function {
-        return number;
-    }
-    out[0] = replay_table::truth(out[0]);
-    number
 }
 
 // Whether both the call and the record's own method give the file's answer.
@@ -90,8 +106,6 @@ pub(crate) fn same_case(
 ) -> bool
     ensures { result ≡ (same_answer wanted words.now number out.now && same_method_of kind function records.now floats.now words.now) }
 {
-    if replay_table::same_answer(wanted, words, number, out) {
-        return kinds::same_method(kind, function, records, floats, words);
-    }
-    false
+    replay_table::same_answer(wanted, words, number, out)
+        && same_method(kind, function, records, floats, words)
 }

@@ -3,7 +3,6 @@
 #![tactic(auto)]
 
 mod answers;
-mod kinds;
 mod print;
 
 ghost use Rattle.std.specs.Prelude.{◌≡◌, ◌<◌, ◌≤◌, length, take, replicate};
@@ -12,18 +11,13 @@ ghost use Rattle.replay_table.specs.Table.{most_words, most_answer};
 ghost use Rattle.replay_records.specs.Kinds.{same_recorded};
 
 use kinds::Kind;
-use replay::tally::{Compared, Tally};
-use replay::{Place, tally};
-use std::os::fd::AsRawFd;
-
-// A case, with its function.
-#[derive(Clone, Copy)]
-struct Told {
-    function: u64,
-    compared: Compared,
-}
+use refusals::answer_number;
+use replay::tally::Tally;
+use replay::{Cut, Reader};
+use std::fs::File;
 
 // Whether a case that was read is the same; one that differs is printed, where it is `told`.
+#[tactic(auto, unfolding(crate::specs::Kinds::same_recorded))]
 fn case_of(
     kind: Kind,
     function: u64,
@@ -41,7 +35,7 @@ fn case_of(
     requires out_nonzero { 0 < length out.old }
     ensures { result ≡ same_recorded kind function exponent records.now floats.now wanted words.now (length run.old) left.old out.old }
 {
-    let number = answers::answer(
+    let number = answer_number(answers::answer(
         kind,
         (function % 0x100) as u32,
         exponent,
@@ -50,14 +44,12 @@ fn case_of(
         run,
         left,
         out,
-    ) as u64;
-    if answers::same_case(kind, function, records, floats, wanted, words, number, out) {
-        return true;
-    }
-    if told {
+    )) as u64;
+    let same = answers::same_case(kind, function, records, floats, wanted, words, number, out);
+    if !same && told {
         print::case(function, number, out, wanted, words);
     }
-    false
+    same
 }
 
 // The same in buffers of its own: as long as the run that a case has, and as its answer.
@@ -95,110 +87,86 @@ fn case_in_buffers(
     )
 }
 
-// One case. Of the function `last` so many were compared so far; the first that differs of each is printed.
+// One case: its function, and whether it is the same. Of the function `last` so many were compared so far; the first that differs of each is printed.
 fn case(
     kind: Kind,
-    file: i32,
-    buffer: &mut [u8; replay::BUFFER],
-    place: Place,
+    reader: &mut Reader<File>,
     pool: &[u64; 256],
     last: u64,
     count: Tally,
-) -> Told {
+) -> (u64, Result<bool, Cut>) {
     let mut words = [0u64; replay_table::WORDS];
-    let mut outside = [0u64; 2];
+    let mut floats = [0u64; 2];
     let mut answer = [0u64; replay_table::ANSWER];
-    let parts = kinds::parts(kind);
-    let c = replay_table::read::read_case(
-        file,
-        buffer,
-        place,
+    let case = replay_table::read::read_case(
+        reader,
         pool,
-        parts,
+        kind.width(),
         &mut words,
-        &mut outside,
+        &mut floats,
         &mut answer,
     );
-    let place = c.place;
-    let n = c.records;
-    let m = c.floats;
-    let size = c.answer;
-    let function = c.function;
-    let told = function != last || count.different == 0;
-    let exponent = replay_table::exponent(c.exponent);
+    let told = case.function != last || count.different == 0;
     let same = case_in_buffers(
         kind,
-        function,
-        exponent,
-        &words[..n],
-        &outside[..m],
-        c.number,
-        &answer[..size],
+        case.function,
+        replay_table::exponent(case.exponent),
+        case.records,
+        case.floats,
+        case.number,
+        case.answer,
         told,
     );
-    let whole = c.whole;
-    let compared = Compared { place, whole, same };
-    Told { function, compared }
+    (case.function, case.whole.and(Ok(same)))
 }
 
 // Every case: a line for each function, as they come.
-fn cases(kind: Kind, file: i32) -> Tally {
-    let mut buffer = [0u8; replay::BUFFER];
+fn cases(kind: Kind, reader: &mut Reader<File>) -> Tally {
     let mut pool = [0u64; 256];
-    let begun = tally::begin(file, &mut buffer);
-    let place = begun.place;
-    let read = replay::read_words(file, &mut buffer, place, 16, &mut pool);
-    let mut run = tally::begun(begun, read);
-    let mut function = 0u64;
-    let mut count = tally::none();
-    while run.left > 0 {
-        let place = run.place;
-        let told = case(kind, file, &mut buffer, place, &pool, function, count);
-        let compared = told.compared;
-        if told.function != function {
-            print::function(function, count);
-            count = tally::none();
+    let mut run = reader.begin();
+    run.begin(reader.read_words(16, &mut pool));
+    let mut last = 0u64;
+    let mut count = Tally::none();
+    reader.cases(&mut run, |reader: &mut Reader<File>| -> Result<bool, Cut> {
+        let (function, same) = case(kind, reader, &pool, last, count);
+        if function != last {
+            print::function(last, count);
+            count = Tally::none();
         }
-        function = told.function;
-        count = tally::counted(count, compared.whole && compared.same);
-        run = tally::after(run, compared);
-    }
-    print::function(function, count);
-    tally::ended(file, &mut buffer, run)
+        last = function;
+        count.count(same == Ok(true));
+        same
+    });
+    print::function(last, count);
+    reader.end(run)
 }
 
 // Replays a file, and reports it by a name.
-fn replay_file(rt: &HostRuntime, kind: Kind, path: &str, name: &[u8]) -> std::io::Result<()> {
-    let file = std::fs::open(rt, path)?;
-    let t = cases(kind, file.as_raw_fd());
-    tally::report(name, t);
+fn replay_file(rt: &HostRuntime, kind: Kind, path: &str, name: &str) -> std::io::Result<()> {
+    let mut reader = Reader::new(File::open(rt, path)?);
+    cases(kind, &mut reader).report(name);
     Ok(())
 }
 
 fn main(rt: HostRuntime) -> std::io::Result<()> {
-    replay_file(&rt, Kind::Dual, "records-dual.txt", b"dual")?;
-    replay_file(&rt, Kind::Dual, "runs-dual.txt", b"dual runs")?;
-    replay_file(&rt, Kind::Dual2, "records-dual2.txt", b"dual2")?;
-    replay_file(&rt, Kind::Dual2, "runs-dual2.txt", b"dual2 runs")?;
-    replay_file(&rt, Kind::Dual3, "records-dual3.txt", b"dual3")?;
-    replay_file(&rt, Kind::Dual3, "runs-dual3.txt", b"dual3 runs")?;
-    replay_file(&rt, Kind::HyperDual, "records-hyperdual.txt", b"hyperdual")?;
-    replay_file(
-        &rt,
-        Kind::HyperDual,
-        "runs-hyperdual.txt",
-        b"hyperdual runs",
-    )?;
+    replay_file(&rt, Kind::Dual, "records-dual.txt", "dual")?;
+    replay_file(&rt, Kind::Dual, "runs-dual.txt", "dual runs")?;
+    replay_file(&rt, Kind::Dual2, "records-dual2.txt", "dual2")?;
+    replay_file(&rt, Kind::Dual2, "runs-dual2.txt", "dual2 runs")?;
+    replay_file(&rt, Kind::Dual3, "records-dual3.txt", "dual3")?;
+    replay_file(&rt, Kind::Dual3, "runs-dual3.txt", "dual3 runs")?;
+    replay_file(&rt, Kind::HyperDual, "records-hyperdual.txt", "hyperdual")?;
+    replay_file(&rt, Kind::HyperDual, "runs-hyperdual.txt", "hyperdual runs")?;
     replay_file(
         &rt,
         Kind::HyperHyperDual,
         "records-hyperhyperdual.txt",
-        b"hyperhyperdual",
+        "hyperhyperdual",
     )?;
     replay_file(
         &rt,
         Kind::HyperHyperDual,
         "runs-hyperhyperdual.txt",
-        b"hyperhyperdual runs",
+        "hyperhyperdual runs",
     )
 }

@@ -1,5 +1,4 @@
 // What is printed of a function and of a case that differs.
-use replay::tally;
 use replay::tally::Tally;
 
 // The descriptor of standard output.
@@ -15,18 +14,16 @@ fn name(function: u64) {
 pub(crate) fn function(function: u64, count: Tally) {
     if count.compared != 0 {
         name(function);
-        tally::report(b"", count);
+        count.report("");
     }
 }
 
 // An answer: its number and its words.
 fn answer(number: u64, words: &[u64]) {
     io::print_hex(STDOUT, number, 2);
-    let mut i = 0usize;
-    while i < words.len() {
+    for word in words {
         io::write_all(STDOUT, b" ");
-        io::print_hex(STDOUT, words[i], 16);
-        i += 1;
+        io::print_hex(STDOUT, *word, 16);
     }
 }
 

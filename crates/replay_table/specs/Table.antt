@@ -1,5 +1,5 @@
 -- The table of functions in oracle/README.md ("Functions"), and the fields of a case. Definitions only.
-use Rattle.std.specs.Prelude.{ℕ, ◌+◌, ◌-◌, ◌*◌, ◌/◌, ◌%◌, ◌^◌, Bool, cond, ◌&&◌, List, [], ◌∷◌, eqb, leb, ℤ, pos, negsuc, get_or}
+use Rattle.std.specs.Prelude.{ℕ, ◌+◌, ◌-◌, ◌*◌, ◌/◌, ◌%◌, ◌^◌, Bool, cond, ◌&&◌, List, [], ◌∷◌, eqb, leb, ℤ, pos, negsuc, get_or, Option, Some, None}
 use Rattle.refusals.specs.Largest as largest
 use Rattle.algebra.specs.Flat.{tabulate}
 use Rattle.replay.specs.Same.{same_numbers}
@@ -37,9 +37,13 @@ table =
     0x1021 ∷  -- 44: sph_j1_series
     []
 
+-- a digit of a line: f is no number, since the case says it
+abbrev pub said : ℕ → Option ℕ
+said digit = cond (eqb digit 15) None (Some digit)
+
 -- the line of a number: 0000 where there is none
 abbrev pub shape_in : ℕ → Shape
-shape_in line = record { records = line / 0x1000 % 16; exponents = line / 0x100 % 16; floats = line / 0x10 % 16; answers = line % 16 }
+shape_in line = record { records = said (line / 0x1000 % 16); exponents = line / 0x100 % 16; floats = line / 0x10 % 16; answers = line % 16 }
 
 unfoldable pub shape_of : ℕ → Shape
 shape_of function = shape_in (get_or table function 0)

@@ -4,14 +4,9 @@
 
 pub mod read;
 
-ghost use Rattle.std.specs.Prelude.{◌≡◌, ◌≤◌, ◌<◌, min, length};
+ghost use Rattle.std.specs.Prelude.{◌≡◌, ◌≤◌, ◌<◌, length};
 ghost use Rattle.refusals.specs.Largest as largest;
 ghost use Rattle.replay_table.specs.Table.{most_answer, shape_of, answer_words, record_of, exponent_of, truth_of, same_answer};
-
-use replay::Place;
-
-// A run says itself how many records it has.
-pub(crate) const RUN: u64 = 15;
 
 // The words of the longest run: twelve records of the widest.
 pub const WORDS: usize = 96;
@@ -19,26 +14,13 @@ pub const WORDS: usize = 96;
 // And of the longest answer: two records of the widest.
 pub const ANSWER: usize = 16;
 
-// How many fields of each sort a case has, and how many records its answer has: none is a whole number.
+// How many fields of each sort a case has, and how many records its answer has: none is a whole number. A run says itself how many records it has.
 #[derive(Clone, Copy)]
 pub struct Shape {
-    pub records: u64,
+    pub records: Option<u64>,
     pub exponents: u64,
     pub floats: u64,
     pub answers: u64,
-}
-
-// A case, but for its words: how many its records, its floats and its answer have.
-#[derive(Clone, Copy)]
-pub struct Case {
-    pub function: u64,
-    pub exponent: u64,
-    pub number: u64,
-    pub records: usize,
-    pub floats: usize,
-    pub answer: usize,
-    pub whole: bool,
-    pub place: Place,
 }
 
 // The table of functions in oracle/README.md from 00 on, in four digits each: records, exponents, floats, and the records of the answer.
@@ -51,21 +33,20 @@ const TABLE: [u64; 69] = [
     0x2000, 0x2000, 0x2000, 0x2000, 0x1000, 0x1000, 0x1000, 0x1000, 0x1021,
 ];
 
+// The digit of a line that stands for a run.
+const RUN: u64 = 15;
+
 // What a case of a function holds; of a number that is no function's nothing.
+#[tactic(auto, unfolding(crate::specs::Table::shape_of))]
 pub fn shape_of(function: u64) -> Shape
     ensures { result ≡ shape_of function }
 {
-    if 69 <= function {
-        return Shape {
-            records: 0,
-            exponents: 0,
-            floats: 0,
-            answers: 0,
-        };
-    }
-    let line = TABLE[function as usize];
+    let line = TABLE.get(function as usize).copied().unwrap_or(0);
     Shape {
-        records: line / 0x1000 % 16,
+        records: match line / 0x1000 % 16 {
+            RUN => None,
+            records => Some(records),
+        },
         exponents: line / 0x100 % 16,
         floats: line / 0x10 % 16,
         answers: line % 16,
@@ -84,27 +65,15 @@ pub fn answer_words(answers: u64, parts: usize) -> usize
     }
 }
 
-// How many floats are lent: two at most.
-pub(crate) fn float_count(floats: u64) -> usize
-    ensures { (result ≡ min floats 2) × (result ≤ 2) }
-{
-    if floats < 2 {
-        return floats as usize;
-    }
-    2
-}
-
 // The words of a record of places, as many as are lent.
 pub fn record_of(pool: &[u64; 256], places: u64, out: &mut [u64])
     requires { length out.old ≤ largest.width }
     ensures { out.new ≡ record_of pool.now places (length out.old) }
 {
-    let mut i = 0usize;
-    while i < out.len() {
-        let shift = (out.len() - 1 - i) * 8;
-        let place = (places >> shift) % 256;
-        out[i] = pool[place as usize];
-        i += 1;
+    let parts = out.len();
+    for (i, word) in out.iter_mut().enumerate() {
+        let place = (places >> ((parts - 1 - i) * 8)) % 256;
+        *word = pool[place as usize];
     }
 }
 
@@ -112,14 +81,7 @@ pub fn record_of(pool: &[u64; 256], places: u64, out: &mut [u64])
 pub fn exponent(w: u64) -> i32
     ensures { result ≡ exponent_of w }
 {
-    if w <= 0x7fff_ffff {
-        return w as i32;
-    }
-    let below = u64::MAX - w;
-    if below <= 0x7fff_ffff {
-        return !(below as i32);
-    }
-    0
+    i32::try_from(w.cast_signed()).unwrap_or(0)
 }
 
 // A truth is recorded as 1 or 0; a call gives it as the word of 1.0 or 0.0. 2 for what is neither.
@@ -134,11 +96,9 @@ pub fn truth(word: u64) -> u64
 }
 
 // Whether a call is refused by the file's number, or by none, and leaves the file's words.
+#[tactic(auto, unfolding(crate::specs::Table::same_answer))]
 pub fn same_answer(wanted: u64, words: &[u64], number: u64, left: &[u64]) -> bool
     ensures { result ≡ same_answer wanted words.now number left.now }
 {
-    if wanted != number {
-        return false;
-    }
-    replay::same::same_words(words, left)
+    wanted == number && words == left
 }

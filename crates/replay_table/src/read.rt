@@ -1,192 +1,104 @@
-// A case, read.
+// A case, read. Of a case that is cut all is read and told all the same, with 0 for each word that is not there: the program tells of it.
 ghost use Rattle.std.specs.Prelude.{◌≡◌, ◌≤◌, ◌<◌, length};
 ghost use Rattle.refusals.specs.Largest as largest;
 ghost use Rattle.replay_table.specs.Table.{most_words, most_answer};
 
-use crate::{Case, RUN, Shape, WORDS};
-use replay::Place;
+use crate::{ANSWER, Shape, WORDS};
+use replay::{Cut, Reader};
+use std::io::Read;
 
-// One word of so many digits, where there is to be one.
+// A case: the words of its records, its floats and its answer, and whether the file has all of it.
 #[derive(Clone, Copy)]
-struct Field {
-    word: u64,
-    whole: bool,
-    place: Place,
+pub struct Case<'a> {
+    pub function: u64,
+    pub exponent: u64,
+    pub number: u64,
+    pub records: &'a [u64],
+    pub floats: &'a [u64],
+    pub answer: &'a [u64],
+    pub whole: Result<(), Cut>,
 }
 
-fn read_field(
-    file: i32,
-    buffer: &mut [u8; replay::BUFFER],
-    place: Place,
-    digits: u32,
-    count: u64,
-) -> Field {
-    if count == 0 {
-        return Field {
-            word: 0,
-            whole: true,
-            place,
-        };
-    }
-    let w = replay::next_word(file, buffer, place);
-    let place = w.place;
-    Field {
-        word: w.word,
-        whole: w.digits == digits,
-        place,
-    }
+// The next word, which is to have so many digits, and whether it has.
+fn read_word<R: Read>(reader: &mut Reader<R>, digits: u32) -> (u64, Result<(), Cut>) {
+    let mut words = [0u64; 1];
+    let whole = reader.read_words(digits, &mut words);
+    (words[0], whole)
 }
 
-// The words of so many records of places, one record after the other, and how many words they are.
-#[derive(Clone, Copy)]
-struct Records {
-    length: usize,
-    whole: bool,
-    place: Place,
-}
-
-fn read_records(
-    file: i32,
-    buffer: &mut [u8; replay::BUFFER],
-    place: Place,
+// The words of so many records of places, one record after the other, to the start of the lent words: how many words they are. They are cut where there are more of
+// them than there is room for.
+fn read_records<R: Read>(
+    reader: &mut Reader<R>,
     pool: &[u64; 256],
     count: u64,
     parts: usize,
-    words: &mut [u64],
-) -> Records
-    requires { (parts ≤ largest.width) × (length words.old ≡ most_words) }
-    ensures { result.length ≤ most_words }
+    words: &mut [u64; WORDS],
+) -> (usize, Result<(), Cut>)
+    requires { (0 < parts) × (parts ≤ largest.width) }
+    ensures { result.0 ≤ most_words }
 {
-    let mut here = place;
-    let mut whole = true;
-    let mut at = 0usize;
-    let mut left = count;
-    while left > 0 {
+    let mut whole = Ok(());
+    let mut at = 0;
+    for _ in 0..count {
         let end = at + parts;
-        if WORDS < end {
-            return Records {
-                length: at,
-                whole: false,
-                place: here,
-            };
+        if end > WORDS {
+            return (at, Err(Cut));
         }
-        let w = replay::next_word(file, buffer, here);
-        here = w.place;
-        if w.digits as usize != parts * 2 {
-            whole = false;
-        }
-        crate::record_of(pool, w.word, &mut words[at..end]);
+        let (places, read) = read_word(reader, 2 * parts as u32);
+        crate::record_of(pool, places, &mut words[at..end]);
+        whole = whole.and(read);
         at = end;
-        left -= 1;
     }
-    Records {
-        length: at,
-        whole,
-        place: here,
-    }
+    (at, whole)
 }
 
-// What comes before the records: the function, and how many records there are.
-#[derive(Clone, Copy)]
-struct Head {
-    function: u64,
-    records: u64,
-    whole: bool,
-    place: Place,
-}
-
-fn read_head(file: i32, buffer: &mut [u8; replay::BUFFER], place: Place) -> Head {
-    let name = read_field(file, buffer, place, 2, 1);
-    let place = name.place;
-    let shape = crate::shape_of(name.word);
-    if shape.records != RUN {
-        return Head {
-            function: name.word,
-            records: shape.records,
-            whole: name.whole,
-            place,
-        };
-    }
-    let count = read_field(file, buffer, place, 4, 1);
-    let place = count.place;
-    Head {
-        function: name.word,
-        records: count.word,
-        whole: name.whole && count.whole,
-        place,
-    }
-}
-
-// What comes after the records and before the answer: powi's exponent, the floats, and the number of a refusal, which a run has not.
-#[derive(Clone, Copy)]
-struct Middle {
-    exponent: u64,
-    number: u64,
-    whole: bool,
-    place: Place,
-}
-
-fn read_middle(
-    file: i32,
-    buffer: &mut [u8; replay::BUFFER],
-    place: Place,
-    shape: Shape,
-    floats: &mut [u64],
-) -> Middle {
-    let exponent = read_field(file, buffer, place, 16, shape.exponents);
-    let place = exponent.place;
-    let outside = replay::read_words(file, buffer, place, 16, floats);
-    let place = outside.place;
-    let number = read_field(
-        file,
-        buffer,
-        place,
-        2,
-        if shape.records == RUN { 0 } else { 1 },
-    );
-    let place = number.place;
-    Middle {
-        exponent: exponent.word,
-        number: number.word,
-        whole: exponent.whole && outside.whole && number.whole,
-        place,
-    }
-}
-
-// Reads a case of a record with so many parts: the words of its records, its floats and its answer to the start of the lent buffers.
-pub fn read_case(
-    file: i32,
-    buffer: &mut [u8; replay::BUFFER],
-    place: Place,
+// Reads a case of a record with so many parts, in lent buffers.
+pub fn read_case<'a, R: Read>(
+    reader: &mut Reader<R>,
     pool: &[u64; 256],
     parts: usize,
-    words: &mut [u64],
-    floats: &mut [u64],
-    answer: &mut [u64],
-) -> Case
+    words: &'a mut [u64; WORDS],
+    floats: &'a mut [u64; 2],
+    answer: &'a mut [u64; ANSWER],
+) -> Case<'a>
     requires parts_fit { (0 < parts) × (parts ≤ largest.width) }
-    requires buffers { (length words.old ≡ most_words) × ((length floats.old ≡ 2) × (length answer.old ≡ most_answer)) }
-    ensures { (result.records ≤ most_words) × ((result.floats ≤ 2) × ((0 < result.answer) × (result.answer ≤ most_answer))) }
+    ensures records { length result.records.now ≤ most_words }
+    ensures floats { length result.floats.now ≤ 2 }
+    ensures answer { (0 < length result.answer.now) × (length result.answer.now ≤ most_answer) }
 {
-    let head = read_head(file, buffer, place);
-    let place = head.place;
-    let shape = crate::shape_of(head.function);
-    let records = read_records(file, buffer, place, pool, head.records, parts, words);
-    let place = records.place;
-    let outside = crate::float_count(shape.floats);
-    let middle = read_middle(file, buffer, place, shape, &mut floats[..outside]);
-    let place = middle.place;
+    let (function, named) = read_word(reader, 2);
+    let shape = crate::shape_of(function);
+    let (count, counted) = match shape.records {
+        Some(count) => (count, Ok(())),
+        None => read_word(reader, 4),
+    };
+    let (length, recorded) = read_records(reader, pool, count, parts, words);
+    let (exponent, powered) = match shape.exponents {
+        0 => (0, Ok(())),
+        _ => read_word(reader, 16),
+    };
+    let outside = shape.floats.min(2) as usize;
+    let floated = reader.read_words(16, &mut floats[..outside]);
+    let (number, numbered) = match shape.records {
+        Some(_) => read_word(reader, 2),
+        None => (0, Ok(())),
+    };
     let size = crate::answer_words(shape.answers, parts);
-    let last = replay::read_words(file, buffer, place, 16, &mut answer[..size]);
-    let place = last.place;
+    let answered = reader.read_words(16, &mut answer[..size]);
     Case {
-        function: head.function,
-        exponent: middle.exponent,
-        number: middle.number,
-        records: records.length,
-        floats: outside,
-        answer: size,
-        whole: head.whole && records.whole && middle.whole && last.whole,
-        place,
+        function,
+        exponent,
+        number,
+        records: &words[..length],
+        floats: &floats[..outside],
+        answer: &answer[..size],
+        whole: named
+            .and(counted)
+            .and(recorded)
+            .and(powered)
+            .and(floated)
+            .and(numbered)
+            .and(answered),
     }
 }

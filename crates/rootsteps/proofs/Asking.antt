@@ -96,9 +96,6 @@ module _ (text : List ℕ) (m : Option Number) (read : m ≡ number_from number_
     pub bits_early : number.end + 1 ≤ number_digits + 1
     bits_early = omega (arith, number_end number_digits text 0 number (sym read ∙ is))
 
-    pub bits_inside : number.end + 1 < 2 ^ 64
-    bits_inside = omega (arith, bits_early)
-
     module _ (b : ℕ) (at : b ≡ byte_at text number.end) where
       by_space : (t : Bool) → eqb (byte_at text number.end) space ≡ t → cond t (bits_from text number.value (number.end + 1)) None ≡ request_of text
       unfolding request_of

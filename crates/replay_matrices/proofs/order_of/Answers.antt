@@ -8,10 +8,7 @@ loop-i-init c = filling_none _ _ _
 
 -- the word at i
 pub loop-i-preserved : goal.loop-i-preserved
-loop-i-preserved c = filling_more _ _ _ _ _ c.loop-i.invariant _ (search rules) c.word_at.ensures
-
-pub shape_of-order : goal.shape_of-order
-shape_of-order c = c.loop-i.invariant.long
+loop-i-preserved c = search (rules, filling_more)
 
 pub returns : goal.returns
-returns c = search (rules, filling_all)
+returns c = filling_all _ _ _ _ _ c.loop-i.invariant (search rules)

@@ -1,35 +1,33 @@
 -- A word is a number of 32 bits near either end of the words; between them it is none.
-use Prim.Native.Nat.{ℕ, suc, ◌-◌, ◌≤◌}
-use mathlib.Core.Path.{◌≡◌, ap, ◌∙◌}
-use native.Mathlib.Omega.{arith}
-use lib.IntN.{pos, negsuc}
-use mir.Syntax.{w32}
-use mir.Val.{to_z}
-use mir.ValLaws.{to_z-of_z}
-use borrow.Author.Tests.{le-leb, lt-leb}
+use Prim.Native.Nat.{ℕ, ◌<◌, ◌^◌}
+use mathlib.Core.Path.{◌≡◌, ◌∙◌}
+use Rattle.std.proofs.Common.{arith, rules, Result, Ok, Err}
+use Rattle.std.specs.Result.{OkIff, result_unwrap_or}
 use Rattle.replay_table.specs.Table.{exponent_of}
+use lib.IntN.{ℤ, pos}
+use lib.Signed.{mag}
+use mir.Syntax.{w32, w64}
+use mir.Val.{SFits, to_z, of_z}
+use mir.ValLaws.{to_z-of_z}
 use Rattle.replay_table.proofs.exponent.Goals as goal
 
--- bits of 32 read as the number that they are of
-upper : (w : ℕ) → w ≤ 2147483647 → to_z w32 w ≡ pos w
-upper w h = to_z-of_z w32 (pos w) (record { sfits = omega arith })
-
-lower : (b : ℕ) → b ≤ 2147483647 → to_z w32 (4294967295 - b) ≡ negsuc b
-lower b h =
-    let bits : 4294967295 - b ≡ 4294967296 - suc b = omega arith in
-    ap (to_z w32) bits ∙ to_z-of_z w32 (negsuc b) (record { sfits = omega arith })
-
--- near 0
-pub returns-then-w-le2147483647 : goal.returns-then-w-le2147483647
+fits : (w : ℕ) → w < 2 ^ 64 → SFits w32 (to_z w64 w) → to_z w64 w ≡ exponent_of w
 unfolding exponent_of
-returns-then-w-le2147483647 c = rw (le-leb _ _ c.if-w-le2147483647.true) (upper _ c.if-w-le2147483647.true)
+fits w h s = grind (arith, s.sfits)
 
--- near 2^64
-pub returns-then-below-le2147483647 : goal.returns-then-below-le2147483647
+fits_not : (w : ℕ) → w < 2 ^ 64 → (SFits w32 (to_z w64 w) → ⊥) → pos 0 ≡ exponent_of w
 unfolding exponent_of
-returns-then-below-le2147483647 c = rw (lt-leb _ _ c.if-w-le2147483647.false, le-leb _ _ c.if-below-le2147483647.true) (lower _ c.if-below-le2147483647.true)
+fits_not w h s =
+    let t : mag (to_z w64 w) < 2147483648 → ⊥ = λ l. s (record { sfits = l }) in
+    grind (arith, t)
 
--- between the two
+-- the number, or 0 where it is none of 32 bits
+told : {E : Type 0} (w : ℕ) → w < 2 ^ 64 → (z : ℤ) → z ≡ to_z w64 w → (r : Result ℤ E) → OkIff r (SFits w32 z) z → result_unwrap_or r (pos 0) ≡ exponent_of w
+told w h z e (Ok x) (s, g) = g ∙ e ∙ fits w h (rw (← e) s)
+told w h z e (Err _) s = fits_not w h (λ t. s (rw e t))
+
 pub returns : goal.returns
-unfolding exponent_of
-returns c = rw (lt-leb _ _ c.if-w-le2147483647.false, lt-leb _ _ c.if-below-le2147483647.false)
+returns c =
+    let z : to_z w64 (of_z w64 c.cast_signed.result) ≡ c.cast_signed.result = to_z-of_z w64 _ (record { sfits = c.cast_signed.type_inv }) in
+    let u : to_z w32 (of_z w32 c.unwrap_or.result) ≡ c.unwrap_or.result = to_z-of_z w32 _ (record { sfits = c.unwrap_or.type_inv }) in
+    u ∙ c.unwrap_or.ensures ∙ told c.args.w (search rules) _ (z ∙ c.cast_signed.ensures) c.try_from.result c.try_from.ensures

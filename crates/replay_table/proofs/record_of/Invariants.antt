@@ -1,9 +1,8 @@
--- The loop keeps: the words passed are those of their places; at its end all are.
+-- The loop keeps: the words passed are those of their places (Filling).
 use Prim.Native.Nat.{ℕ, ◌-◌, ◌*◌, ◌/◌, ◌%◌, ◌^◌}
-use mathlib.Core.Path.{◌≡◌}
 use mathlib.Core.List.{List}
 use lib.ListN.{length, get_or}
-use Rattle.floats.proofs.Fill.{Filled}
+use Rattle.floats.proofs.Fill.{Filling}
 use Rattle.replay_table.proofs.record_of.Given as goal
 
 -- word number i of the record
@@ -11,7 +10,4 @@ abbrev pub placed : List ℕ → ℕ → ℕ → ℕ → ℕ
 placed pool places parts i = get_or pool (places / 2 ^ ((parts - 1 - i) * 8) % 256) 0
 
 abbrev pub invariant-loop-i : goal.invariant-loop-i
-invariant-loop-i l = (length l.out ≡ length l.initial.out) × Filled 0 (placed l.pool l.places (length l.initial.out)) l.out l.i
-
-abbrev pub decreases-loop-i : goal.decreases-loop-i
-decreases-loop-i l = length l.initial.out - l.i
+invariant-loop-i l = Filling 0 (placed l.pool l.places (length l.initial.out)) (length l.initial.out) l.out l.i

@@ -1,20 +1,17 @@
--- The loop keeps: what was passed is the same (Alike).
+-- What `all` tells of the pairs is what `==` tells place by place.
+use mathlib.Core.Path.{◌∙◌}
+use lib.Dec.{eqb}
 use borrow.Author.Rules.{rules}
-use borrow.Author.Tests.{eq-eqb, ne_eqb}
-use Rattle.replay.proofs.Alike.{lengths_differ, alike_none, alike_more, alike_not, alike_all}
+use borrow.Author.Tests.{tests}
+use Rattle.std.proofs.lemmas.Iterator.{YieldsList-from_slice, YieldsList-from_zip}
+use Rattle.std.proofs.lemmas.Iterator.Search.{all_from_yields_List}
+use Rattle.replay.proofs.Pairs.{all_pairs}
 use Rattle.replay.proofs.same.same_words.Goals as goal
 
-pub returns-then-left-right : goal.returns-then-left-right
-returns-then-left-right c = search (rules, lengths_differ)
-
-pub loop-i-init : goal.loop-i-init
-loop-i-init c = search (rules, alike_none)
-
-pub returns-then-left-i : goal.returns-then-left-i
-returns-then-left-i c = search (rules, alike_not, ne_eqb)
-
-pub loop-i-preserved : goal.loop-i-preserved
-loop-i-preserved c = search (rules, alike_more, eq-eqb)
-
-pub returns : goal.returns
-returns c = search (rules, alike_all)
+pub returns-then-words-items : goal.returns-then-words-items
+returns-then-words-items g c =
+    let word = g.T.HasWord.word in
+    all_from_yields_List {s = c.zip.result} (λ t. eqb t.0 (word t.1)) c.all.new.self _ _ c.all.ensures.ran
+    (YieldsList-from_zip (YieldsList-from_slice c.args.words.now (search rules)) (YieldsList-from_slice c.args.items.now (search rules)))
+    (λ x b q k. search (rules, tests))
+    ∙ all_pairs (λ w x. eqb w (word x)) c.args.words.now c.args.items.now c.if-words-items.true

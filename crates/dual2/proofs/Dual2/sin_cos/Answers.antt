@@ -1,5 +1,0 @@
--- What the calls promise, put together, is the definition.
-use Rattle.dual2.proofs.Dual2.sin_cos.Goals as goal
-
-pub returns : goal.returns
-returns c = cc

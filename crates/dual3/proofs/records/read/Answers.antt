@@ -1,8 +1,0 @@
--- The floats that are read are the parts of record `at`: one law over any record (Cells).
-use borrow.Author.Rules.{rules}
-use Rattle.algebra.proofs.Cells.{read_record}
-use Rattle.dual3.proofs.Flat.{dual3_laws}
-use Rattle.dual3.proofs.records.read.Goals as goal
-
-pub returns : goal.returns
-returns c = search (rules, read_record dual3_laws)

@@ -1,2 +1,0 @@
--- What the contracts of the calls over `Dual3` are written with. Definitions only.
-pub mod Kind

@@ -1,2 +1,0 @@
--- What the contracts of the calls over `HyperDual` are written with. Definitions only.
-pub mod Kind

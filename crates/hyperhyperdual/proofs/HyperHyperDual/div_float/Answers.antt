@@ -1,8 +1,0 @@
--- The body is the rule's own operations in its order.
-use mathlib.Core.Path.{refl}
-use Rattle.hyperhyperdual.specs.Rules.{hyper_hyper_dual_div_float}
-use Rattle.hyperhyperdual.proofs.HyperHyperDual.div_float.Goals as goal
-
-pub returns : goal.returns
-unfolding hyper_hyper_dual_div_float
-returns c = refl

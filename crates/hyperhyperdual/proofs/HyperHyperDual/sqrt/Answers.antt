@@ -1,5 +1,0 @@
--- What the calls promise, put together, is the definition.
-use Rattle.hyperhyperdual.proofs.HyperHyperDual.sqrt.Goals as goal
-
-pub returns : goal.returns
-returns c = cc

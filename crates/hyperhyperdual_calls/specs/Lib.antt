@@ -1,2 +1,0 @@
--- What the contracts of the calls over `HyperHyperDual` are written with. Definitions only.
-pub mod Kind

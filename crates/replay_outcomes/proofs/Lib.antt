@@ -1,2 +1,0 @@
--- What the outcomes are proved with.
-pub mod Join

@@ -1,4 +1,0 @@
--- Laws that the proofs cite.
-mod ByKind
-mod Answering
-mod Lent
