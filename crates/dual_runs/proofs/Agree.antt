@@ -45,7 +45,7 @@ module _ {R : Type 0} (L : Layout R) (W : Lawful L) where
     unfolding product_of
     product_agrees = rw (eq-eqb (length (encode L run) % L.width) 0 (whole_records run)) (ap value (flat_joined A.mul (one_of A) run))
 
--- at `Dual`: the promise of `dual_runs::sum` is that of `dual::sum` on the run's flat floats, and so for the product
+-- at `Dual`: the promise of `dual_runs::sum` is that of `Dual::sum` on the run's flat floats, and so for the product
 pub dual_sum_agrees : (run : List Dual) → sum_of dual_layout dual_algebra (encode dual_layout run) ≡ value (joined dual_add (zero_of dual_algebra) run)
 dual_sum_agrees = sum_agrees dual_layout dual_lawful dual_algebra
 

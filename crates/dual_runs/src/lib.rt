@@ -8,29 +8,18 @@ ghost use Rattle.dual.specs.Rules.{dual_add, dual_mul, dual_algebra};
 ghost use Rattle.dual_runs.specs.Runs.{joined};
 
 use dual::Dual;
+use records::Record;
 
 // From zero, left to right.
 pub fn sum(records: &[Dual]) -> Dual
     ensures { result ≡ joined dual_add (zero_of dual_algebra) records.now }
 {
-    let mut acc = Dual { re: 0.0, eps: 0.0 };
-    let mut i = 0usize;
-    while i < records.len() {
-        acc = acc.add(records[i]);
-        i += 1;
-    }
-    acc
+    records.iter().fold(Dual::zero(), |acc, x| acc.add(*x))
 }
 
 // From one, left to right.
 pub fn product(records: &[Dual]) -> Dual
     ensures { result ≡ joined dual_mul (one_of dual_algebra) records.now }
 {
-    let mut acc = Dual { re: 1.0, eps: 0.0 };
-    let mut i = 0usize;
-    while i < records.len() {
-        acc = acc.mul(records[i]);
-        i += 1;
-    }
-    acc
+    records.iter().fold(Dual::one(), |acc, x| acc.mul(*x))
 }

@@ -12,18 +12,16 @@ fn read_text(text: &mut [u8]) -> usize
     requires { longest_line ≤ length text.old }
     ensures { IsPrefixLen result text.new }
 {
-    let mut read = 0;
-    while read < dualrun_text::LONGEST_LINE {
+    for read in 0..dualrun_text::LONGEST_LINE {
         let end = read + 1;
         if io::read_full(0, &mut text[read..end]) == 0 {
             return read;
         }
-        read = end;
-        if dualrun_text::decided(&text[..read]) {
-            return read;
+        if dualrun_text::decided(&text[..end]) {
+            return end;
         }
     }
-    read + io::read_full(0, &mut text[read..])
+    dualrun_text::LONGEST_LINE + io::read_full(0, &mut text[dualrun_text::LONGEST_LINE..])
 }
 
 fn main() {

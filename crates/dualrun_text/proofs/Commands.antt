@@ -1,16 +1,15 @@
 -- The two commands, case by case: each law says what is written, by the tests and the calls that led to it. Assumes nothing.
 use Prim.Native.Nat.{ℕ, zero, suc, ◌*◌, ◌≤◌}
 use mathlib.Core.Path.{◌≡◌, refl, sym, ap, ◌∙◌}
-use mathlib.Core.Bool.{Bool, true, false, cond, not}
+use mathlib.Core.Bool.{Bool, true, false, cond}
 use mathlib.Core.List.{List, ◌∷◌, ◌++◌}
 use native.Mathlib.Nat.{mul-le-mul_left, mul-le-mul_right, le_trans}
 use native.Mathlib.Omega.{arith}
 use lib.Dec.{ltb, eqb}
 use lib.ListN.{length, take, replicate}
 use lib.Ieee.{Float}
-use borrow.Author.Tests.{ltb-false, eqb-true, eq-eqb, ne_eqb, not-true, not-false}
+use borrow.Author.Tests.{ltb-false, eqb-true, eq-eqb, ne_eqb}
 use Rattle.real.specs.Operations as float
-use Rattle.refusals.specs.Number as refusal
 use Rattle.refusals.specs.Largest as largest
 use Rattle.algebra.specs.Outcome.{number_of}
 use Rattle.dual.specs.Rules.{dual_algebra, dual_layout}
@@ -23,13 +22,18 @@ use Rattle.jacobi.specs.Entry.{JacobiLeft, jacobi_left}
 use Rattle.jacobi.specs.Answer.{outcome}
 use Rattle.jacobi.specs.declared.JacobiAnswer.{JacobiAnswer}
 use Rattle.jacobi.specs.declared.JacobiAnswer.TheVariants as jacobi
-use Rattle.texts.specs.Page.{Page, page, written}
-use Rattle.texts.proofs.Page.{three_parts, counted}
+use Rattle.texts.specs.declared.write.Writer.{Writer}
+use Rattle.texts.specs.Page.{Puts}
+use Rattle.texts.proofs.Page.{puts_then, puts_as}
+use Rattle.std.specs.Prelude.{◌/◌, Option}
+use Rattle.refusals.specs.declared.Refusal.{Refusal}
+use Rattle.refusals.specs.declared.Refusal.TheVariants.{Unreadable}
+use Rattle.refusals.specs.Refused.{number}
+use Rattle.refusals.proofs.Numbers.{number_positive}
 use Rattle.dualrun_text.specs.declared.Request.{Request}
-use Rattle.dualrun_text.specs.declared.Request.TheVariants.{Lu, Eig, Unreadable}
-use Rattle.dualrun_text.specs.Request.{request_of, lu_line_refusal, eig_line_refusal, line_refusal}
+use Rattle.dualrun_text.specs.Request.{request_of, lu_line_refusal, eig_line_refusal}
 use Rattle.dualrun_text.specs.Body.{Fits, most_floats, is_body, floats_from}
-use Rattle.dualrun_text.specs.Lines.{pair_line, record_lines, order_line}
+use Rattle.dualrun_text.specs.Lines.{refusal_line, pair_line, record_lines, order_line}
 use Rattle.dualrun_text.specs.Output.{unreadable, unless_refused, lu_lines, lu_printed, eig_lines, eig_printed, lu_of_lines, eig_of_lines, lu_in_room, eig_in_room, lu_output, eig_output, output_for, output_of}
 
 pub fits : (n : ℕ) → n ≤ largest.n → Fits n
@@ -40,17 +44,6 @@ take_replicate zero n x h = refl
 take_replicate (suc k) zero x h = absurd (omega arith)
 take_replicate {A} (suc k) (suc n) x h = ap (λ (l : List A). x ∷ l) (take_replicate k n x (omega arith))
 
--- ---- the number of a request, by its case
-module _ (q : Request) (number : ℕ) where
-  pub refusal_of_lu : (n start : ℕ) → q ≡ Lu n start → number ≡ lu_line_refusal n → number ≡ line_refusal q
-  refusal_of_lu n start e g = rw e g
-
-  pub refusal_of_eig : (n limit start : ℕ) → q ≡ Eig n limit start → number ≡ eig_line_refusal n limit → number ≡ line_refusal q
-  refusal_of_eig n limit start e g = rw e g
-
-pub refusal_of_unreadable : (q : Request) → q ≡ Unreadable → refusal.unreadable ≡ line_refusal q
-refusal_of_unreadable q e = rw e
-
 -- n is small where the first line is not refused
 pub lu_few : (n : ℕ) → lu_line_refusal n ≡ 0 → n ≤ largest.n
 lu_few n e = ltb-false largest.n n (passed (ltb largest.n n) 0 0 e).0
@@ -58,15 +51,15 @@ lu_few n e = ltb-false largest.n n (passed (ltb largest.n n) 0 0 e).0
 pub eig_few : (n limit : ℕ) → eig_line_refusal n limit ≡ 0 → n ≤ largest.n
 eig_few n limit e = ltb-false largest.n n (passed (ltb largest.n n) 0 _ e).0
 
-pub lu_fits : (n number : ℕ) → number ≡ lu_line_refusal n → number ≡ 0 → Fits n
-lu_fits n number e z = fits n (lu_few n (sym e ∙ z))
+pub lu_fits : (n : ℕ) → 0 ≡ lu_line_refusal n → Fits n
+lu_fits n e = fits n (lu_few n (sym e))
 
-pub eig_fits : (n limit number : ℕ) → number ≡ eig_line_refusal n limit → number ≡ 0 → Fits n
-eig_fits n limit number e z = fits n (eig_few n limit (sym e ∙ z))
+pub eig_fits : (n limit : ℕ) → 0 ≡ eig_line_refusal n limit → Fits n
+eig_fits n limit e = fits n (eig_few n limit (sym e))
 
 -- ---- what the first line decides, or not
-refused_line : (number k : ℕ) (lines : List ℕ) → number ≡ k → (number ≡ 0 → ⊥) → pair_line number 0 ≡ unless_refused k lines
-refused_line number k lines e h = ap (λ (j : ℕ). pair_line j 0) e ∙ ap (λ (b : Bool). cond b lines (pair_line k 0)) (sym (ne_eqb k 0 (λ z. h (e ∙ z))))
+refused_line : (e : Refusal) (k : ℕ) (lines : List ℕ) → number e ≡ k → pair_line (number e) 0 ≡ unless_refused k lines
+refused_line e k lines g = ap (λ (j : ℕ). pair_line j 0) g ∙ ap (λ (b : Bool). cond b lines (pair_line k 0)) (sym (ne_eqb k 0 (λ z. omega (arith, number_positive e))))
 
 not_refused : (k : ℕ) (lines : List ℕ) → k ≡ 0 → lines ≡ unless_refused k lines
 not_refused k lines e = ap (λ (b : Bool). cond b lines (pair_line k 0)) (sym (eq-eqb k 0 e))
@@ -79,109 +72,103 @@ unless_same k x y h = by (eqb k 0) refl
     by true e = h (eqb-true k 0 e)
     by false e = refl
 
-module _ (p q : Page) (text : List ℕ) (n start number : ℕ) (told : number ≡ lu_line_refusal n) where
-  pub lu_line_refused : (number ≡ 0 → ⊥) → q ≡ written p (pair_line number 0) → q ≡ written p (lu_output text n start)
-  unfolding lu_output
-  lu_line_refused h e = e ∙ ap (written p) (refused_line number (lu_line_refusal n) _ told h)
+module _ (u v : Writer) (text : List ℕ) where
+  module _ (n start : ℕ) where
+    pub lu_line_refused : (e : Refusal) (k : ℕ) → k ≡ number e → number e ≡ lu_line_refusal n → Puts u v (pair_line k 0) → Puts u v (lu_output text n start)
+    unfolding lu_output
+    lu_line_refused e k is told f = puts_as f (ap (λ (j : ℕ). pair_line j 0) is ∙ refused_line e (lu_line_refusal n) _ told)
 
-  pub lu_goes_on : number ≡ 0 → q ≡ written p (lu_in_room text n start) → q ≡ written p (lu_output text n start)
-  unfolding lu_output
-  lu_goes_on h e = e ∙ ap (written p) (not_refused (lu_line_refusal n) _ (sym told ∙ h))
+    pub lu_goes_on : 0 ≡ lu_line_refusal n → Puts u v (lu_in_room text n start) → Puts u v (lu_output text n start)
+    unfolding lu_output
+    lu_goes_on told f = puts_as f (not_refused (lu_line_refusal n) _ (sym told))
 
-module _ (p q : Page) (text : List ℕ) (n limit start number : ℕ) (told : number ≡ eig_line_refusal n limit) where
-  pub eig_line_refused : (number ≡ 0 → ⊥) → q ≡ written p (pair_line number 0) → q ≡ written p (eig_output text n limit start)
-  unfolding eig_output
-  eig_line_refused h e = e ∙ ap (written p) (refused_line number (eig_line_refusal n limit) _ told h)
+  module _ (n limit start : ℕ) where
+    pub eig_line_refused : (e : Refusal) (k : ℕ) → k ≡ number e → number e ≡ eig_line_refusal n limit → Puts u v (pair_line k 0) → Puts u v (eig_output text n limit start)
+    unfolding eig_output
+    eig_line_refused e k is told f = puts_as f (ap (λ (j : ℕ). pair_line j 0) is ∙ refused_line e (eig_line_refusal n limit) _ told)
 
-  pub eig_goes_on : number ≡ 0 → q ≡ written p (eig_in_room text n limit start) → q ≡ written p (eig_output text n limit start)
-  unfolding eig_output
-  eig_goes_on h e = e ∙ ap (written p) (not_refused (eig_line_refusal n limit) _ (sym told ∙ h))
+    pub eig_goes_on : 0 ≡ eig_line_refusal n limit → Puts u v (eig_in_room text n limit start) → Puts u v (eig_output text n limit start)
+    unfolding eig_output
+    eig_goes_on told f = puts_as f (not_refused (eig_line_refusal n limit) _ (sym told))
 
 -- ---- the buffers: the first part of the largest
-module _ (p q : Page) (text : List ℕ) (n start : ℕ) (small : Fits n) where
-  pub lu_in_room_lem : q ≡ written p (lu_of_lines text n start (take (n * n * 2) (replicate most_floats float.zero)) (take n (replicate largest.n 0))) → q ≡ written p (lu_in_room text n start)
-  lu_in_room_lem e = e ∙ (λ i. written p (lu_of_lines text n start (take_replicate (n * n * 2) most_floats float.zero (omega arith) i) (take_replicate n largest.n 0 small.few i)))
+module _ (u v : Writer) (text : List ℕ) (n start : ℕ) (small : Fits n) where
+  pub lu_in_room_lem : Puts u v (lu_of_lines text n start (take (n * n * 2) (replicate most_floats float.zero)) (take n (replicate largest.n 0))) → Puts u v (lu_in_room text n start)
+  lu_in_room_lem f = puts_as f (λ i. lu_of_lines text n start (take_replicate (n * n * 2) most_floats float.zero (omega arith) i) (take_replicate n largest.n 0 small.few i))
 
-  pub eig_in_room_lem : (limit : ℕ) → q ≡ written p (eig_of_lines text n limit start (take (n * 2) (replicate (largest.n * 2) float.zero)) (take (n * n * 2) (replicate most_floats float.zero))) → q ≡ written p (eig_in_room text n limit start)
-  eig_in_room_lem limit e = e ∙ (λ i. written p (eig_of_lines text n limit start (take_replicate (n * 2) (largest.n * 2) float.zero (omega arith) i) (take_replicate (n * n * 2) most_floats float.zero (omega arith) i)))
+  pub eig_in_room_lem : (limit : ℕ) → Puts u v (eig_of_lines text n limit start (take (n * 2) (replicate (largest.n * 2) float.zero)) (take (n * n * 2) (replicate most_floats float.zero))) → Puts u v (eig_in_room text n limit start)
+  eig_in_room_lem limit f = puts_as f (λ i. eig_of_lines text n limit start (take_replicate (n * 2) (largest.n * 2) float.zero (omega arith) i) (take_replicate (n * n * 2) most_floats float.zero (omega arith) i))
 
 -- ---- what is printed of an answer
-module _ (p : Page) (n : ℕ) (factors : List Float) (order : List ℕ) (answer : LuAnswer) where
-  pub lu_refused : (q : Page) (a b number column : ℕ) → answer ≡ lu.Refused a b → number ≡ number_of (lu_outcome answer) → column ≡ lu_column answer
-      → q ≡ written p (pair_line number column) → q ≡ written p (lu_lines n (lu_outcome answer) (lu_column answer) factors order)
-  lu_refused q a b number column e f g h = h ∙ (λ i. written p (pair_line (f i) (g i))) ∙ ap (written p) (printed e)
+-- records that fill a buffer
+all_records : (l : List Float) (k : ℕ) → length l ≡ k * 2 → record_lines l (length l / 2) ≡ record_lines l k
+all_records l k e = ap (record_lines l) (let h : length l / 2 ≡ k = omega arith in h)
+
+module _ (n : ℕ) (factors : List Float) (order : List ℕ) (answer : LuAnswer) where
+  pub lu_refused : (u v : Writer) (a b number column : ℕ) → answer ≡ lu.Refused a b → number ≡ number_of (lu_outcome answer) → column ≡ lu_column answer
+      → Puts u v (pair_line number column) → Puts u v (lu_lines n (lu_outcome answer) (lu_column answer) factors order)
+  lu_refused u v a b number column e f g h = puts_as h ((λ i. pair_line (f i) (g i)) ∙ printed e)
     where
       printed : answer ≡ lu.Refused a b → pair_line (number_of (lu_outcome answer)) (lu_column answer) ≡ lu_lines n (lu_outcome answer) (lu_column answer) factors order
       printed e = rw e
 
-  pub lu_done : (q r s : Page) (swaps : ℕ) → answer ≡ lu.Done swaps → length order ≡ n → q ≡ written p (pair_line 0 swaps) → r ≡ written q (order_line order (length order)) → s ≡ written r (record_lines factors (n * n))
-      → s ≡ written p (lu_lines n (lu_outcome answer) (lu_column answer) factors order)
-  lu_done q r s swaps e size f g h = three_parts p (pair_line 0 swaps) (order_line order (length order)) (record_lines factors (n * n)) f g h ∙ ap (written p) (printed e size)
+  pub lu_done : (u v w x : Writer) (swaps : ℕ) → answer ≡ lu.Done swaps → length order ≡ n → length factors ≡ n * n * 2 → Puts u v (pair_line 0 swaps) → Puts v w (order_line order (length order)) → Puts w x (record_lines factors (length factors / 2))
+      → Puts u x (lu_lines n (lu_outcome answer) (lu_column answer) factors order)
+  lu_done u v w x swaps e size full f g h = puts_as (puts_then _ _ (puts_then _ _ f g) (puts_as h (all_records factors (n * n) full))) (printed e size)
     where
       printed : answer ≡ lu.Done swaps → length order ≡ n → pair_line 0 swaps ++ order_line order (length order) ++ record_lines factors (n * n) ≡ lu_lines n (lu_outcome answer) (lu_column answer) factors order
       printed e h = rw (e, h)
 
-module _ (p : Page) (n : ℕ) (values vectors : List Float) (answer : JacobiAnswer) where
-  pub eig_refused : (q : Page) (a number : ℕ) → answer ≡ jacobi.Refused a → number ≡ number_of (outcome answer) → q ≡ written p (pair_line number 0) → q ≡ written p (eig_lines n (outcome answer) values vectors)
-  eig_refused q a number e f h = h ∙ ap (λ (k : ℕ). written p (pair_line k 0)) f ∙ ap (written p) (printed e)
+module _ (n : ℕ) (values vectors : List Float) (answer : JacobiAnswer) where
+  pub eig_refused : (u v : Writer) (a number : ℕ) → answer ≡ jacobi.Refused a → number ≡ number_of (outcome answer) → Puts u v (pair_line number 0) → Puts u v (eig_lines n (outcome answer) values vectors)
+  eig_refused u v a number e f h = puts_as h (ap (λ (k : ℕ). pair_line k 0) f ∙ printed e)
     where
       printed : answer ≡ jacobi.Refused a → pair_line (number_of (outcome answer)) 0 ≡ eig_lines n (outcome answer) values vectors
       printed e = rw e
 
-  pub eig_done : (q r s : Page) (sweeps : ℕ) → answer ≡ jacobi.Done sweeps → q ≡ written p (pair_line 0 sweeps) → r ≡ written q (record_lines values n) → s ≡ written r (record_lines vectors (n * n)) → s ≡ written p (eig_lines n (outcome answer) values vectors)
-  eig_done q r s sweeps e f g h = three_parts p (pair_line 0 sweeps) (record_lines values n) (record_lines vectors (n * n)) f g h ∙ ap (written p) (printed e)
+  pub eig_done : (u v w x : Writer) (sweeps : ℕ) → answer ≡ jacobi.Done sweeps → length values ≡ n * 2 → length vectors ≡ n * n * 2 → Puts u v (pair_line 0 sweeps) → Puts v w (record_lines values (length values / 2)) → Puts w x (record_lines vectors (length vectors / 2))
+      → Puts u x (eig_lines n (outcome answer) values vectors)
+  eig_done u v w x sweeps e row full f g h = puts_as (puts_then _ _ (puts_then _ _ f (puts_as g (all_records values n row))) (puts_as h (all_records vectors (n * n) full))) (printed e)
     where
       printed : answer ≡ jacobi.Done sweeps → pair_line 0 sweeps ++ record_lines values n ++ record_lines vectors (n * n) ≡ eig_lines n (outcome answer) values vectors
       printed e = rw e
 
 -- ---- the lines of the matrix, good or not
-module _ (p q : Page) (text : List ℕ) (n start size : ℕ) (good : Bool) (tested : good ≡ is_body text start size) (sized : size ≡ n * n * 2) where
-  body_is : good ≡ is_body text start (n * n * 2)
-  body_is = tested ∙ ap (is_body text start) sized
+module _ (u v : Writer) (text : List ℕ) (n start size : ℕ) (sized : size ≡ n * n * 2) where
+  module _ (bad : is_body text start size ≡ false) where
+    is_bad : is_body text start (n * n * 2) ≡ false
+    is_bad = ap (is_body text start) (sym sized) ∙ bad
 
-  is_bad : not good ≡ true → is_body text start (n * n * 2) ≡ false
-  is_bad h = sym body_is ∙ not-true good h
-
-  is_good : not good ≡ false → is_body text start (n * n * 2) ≡ true
-  is_good h = sym body_is ∙ not-false good h
-
-  pub lu_unread : (factors : List Float) (order : List ℕ) → not good ≡ true → q ≡ written p unreadable → q ≡ written p (lu_of_lines text n start factors order)
-  unfolding lu_of_lines
-  lu_unread factors order h e = e ∙ ap (written p) (let u : unreadable ≡ lu_of_lines text n start factors order = rw (is_bad h) in u)
-
-  pub eig_unread : (limit : ℕ) (values vectors : List Float) → not good ≡ true → q ≡ written p unreadable → q ≡ written p (eig_of_lines text n limit start values vectors)
-  unfolding eig_of_lines
-  eig_unread limit values vectors h e = e ∙ ap (written p) (let u : unreadable ≡ eig_of_lines text n limit start values vectors = rw (is_bad h) in u)
-
-  module _ (m : List Float) (read : good ≡ true → m ≡ floats_from text start size) (went : not good ≡ false) where
-    floats_are : m ≡ floats_from text start (n * n * 2)
-    floats_are = read (not-false good went) ∙ ap (floats_from text start) sized
-
-    pub lu_read : (factors : List Float) (order : List ℕ) (left : LuLeft) → left ≡ lu_left dual_algebra dual_layout n m factors order → q ≡ written p (lu_printed n left) → q ≡ written p (lu_of_lines text n start factors order)
+    pub lu_unread : (factors : List Float) (order : List ℕ) (e : Refusal) → e ≡ Unreadable → Puts u v (refusal_line (number e)) → Puts u v (lu_of_lines text n start factors order)
     unfolding lu_of_lines
-    lu_read factors order left g e =
-        e ∙ ap (λ (x : LuLeft). written p (lu_printed n x)) (g ∙ ap (λ (x : List Float). lu_left dual_algebra dual_layout n x factors order) floats_are)
-        ∙ ap (written p) (let u : lu_printed n (lu_left dual_algebra dual_layout n (floats_from text start (n * n * 2)) factors order) ≡ lu_of_lines text n start factors order = rw (is_good went) in u)
+    lu_unread factors order e is f = puts_as f (ap (λ (x : Refusal). refusal_line (number x)) is ∙ (let h : unreadable ≡ lu_of_lines text n start factors order = rw is_bad in h))
 
-    pub eig_read : (limit : ℕ) (values vectors : List Float) (left : JacobiLeft) → left ≡ jacobi_left dual_algebra dual_layout n m limit values vectors → q ≡ written p (eig_printed n left) → q ≡ written p (eig_of_lines text n limit start values vectors)
+    pub eig_unread : (limit : ℕ) (values vectors : List Float) (e : Refusal) → e ≡ Unreadable → Puts u v (refusal_line (number e)) → Puts u v (eig_of_lines text n limit start values vectors)
     unfolding eig_of_lines
-    eig_read limit values vectors left g e =
-        e ∙ ap (λ (x : JacobiLeft). written p (eig_printed n x)) (g ∙ ap (λ (x : List Float). jacobi_left dual_algebra dual_layout n x limit values vectors) floats_are)
-        ∙ ap (written p) (let u : eig_printed n (jacobi_left dual_algebra dual_layout n (floats_from text start (n * n * 2)) limit values vectors) ≡ eig_of_lines text n limit start values vectors = rw (is_good went) in u)
+    eig_unread limit values vectors e is f = puts_as f (ap (λ (x : Refusal). refusal_line (number x)) is ∙ (let h : unreadable ≡ eig_of_lines text n limit start values vectors = rw is_bad in h))
 
--- ---- the request
-module _ (text l m : List ℕ) (r : ℕ) (q : Request) (asked : q ≡ request_of text) where
-  output_of_lem : (case : Request) → q ≡ case → page m r ≡ written (page l 0) (output_for text case) → (page m r ≡ written (page l 0) (output_of text)) × ((r ≤ length m) × (r ≡ length (take r m)))
-  unfolding output_of
-  output_of_lem case e g =
-      let h = g ∙ ap (λ (x : Request). written (page l 0) (output_for text x)) (sym e ∙ asked) in
-      (h, counted l m r _ h)
+  module _ (m : List Float) (good : is_body text start size ≡ true) (read : m ≡ floats_from text start size) where
+    is_good : is_body text start (n * n * 2) ≡ true
+    is_good = ap (is_body text start) (sym sized) ∙ good
 
-  pub output_of_lu : (n start : ℕ) → q ≡ Lu n start → page m r ≡ written (page l 0) (lu_output text n start) → (page m r ≡ written (page l 0) (output_of text)) × ((r ≤ length m) × (r ≡ length (take r m)))
-  output_of_lu n start e g = output_of_lem (Lu n start) e g
+    floats_are : m ≡ floats_from text start (n * n * 2)
+    floats_are = read ∙ ap (floats_from text start) sized
 
-  pub output_of_eig : (n limit start : ℕ) → q ≡ Eig n limit start → page m r ≡ written (page l 0) (eig_output text n limit start) → (page m r ≡ written (page l 0) (output_of text)) × ((r ≤ length m) × (r ≡ length (take r m)))
-  output_of_eig n limit start e g = output_of_lem (Eig n limit start) e g
+    pub lu_read : (factors : List Float) (order : List ℕ) (left : LuLeft) → left ≡ lu_left dual_algebra dual_layout n m factors order → Puts u v (lu_printed n left) → Puts u v (lu_of_lines text n start factors order)
+    unfolding lu_of_lines
+    lu_read factors order left g f =
+        puts_as f
+        (ap (lu_printed n) (g ∙ ap (λ (x : List Float). lu_left dual_algebra dual_layout n x factors order) floats_are)
+        ∙ (let h : lu_printed n (lu_left dual_algebra dual_layout n (floats_from text start (n * n * 2)) factors order) ≡ lu_of_lines text n start factors order = rw is_good in h))
 
-  pub output_of_unreadable : q ≡ Unreadable → page m r ≡ written (page l 0) unreadable → (page m r ≡ written (page l 0) (output_of text)) × ((r ≤ length m) × (r ≡ length (take r m)))
-  output_of_unreadable e g = output_of_lem Unreadable e g
+    pub eig_read : (limit : ℕ) (values vectors : List Float) (left : JacobiLeft) → left ≡ jacobi_left dual_algebra dual_layout n m limit values vectors → Puts u v (eig_printed n left) → Puts u v (eig_of_lines text n limit start values vectors)
+    unfolding eig_of_lines
+    eig_read limit values vectors left g f =
+        puts_as f
+        (ap (eig_printed n) (g ∙ ap (λ (x : List Float). jacobi_left dual_algebra dual_layout n x limit values vectors) floats_are)
+        ∙ (let h : eig_printed n (jacobi_left dual_algebra dual_layout n (floats_from text start (n * n * 2)) limit values vectors) ≡ eig_of_lines text n limit start values vectors = rw is_good in h))
+
+-- ---- the request: what was asked, what the case is, and what was written for it
+pub answered : (u v : Writer) (text : List ℕ) (q case : Option Request) → q ≡ request_of text → q ≡ case → Puts u v (output_for text case) → Puts u v (output_of text)
+unfolding output_of
+answered u v text q case asked e p = puts_as p (ap (output_for text) (sym e ∙ asked))

@@ -8,8 +8,8 @@ use native.Mathlib.Omega.{arith}
 use lib.Dec.{leb, ltb, eqb}
 use lib.ListN.{length}
 use borrow.Author.Tests.{eqb-true, ne_eqb}
+use Rattle.std.specs.Prelude.{Option, Some, None}
 use Rattle.texts.specs.declared.Number.{Number}
-use Rattle.texts.specs.declared.Number.TheVariants.{Is, Not}
 use Rattle.texts.specs.Bytes.{newline, space}
 use Rattle.texts.specs.Digits.{byte_at, every, starts_with, no_newline, is_digit, digit_value, digit_run, number_at}
 use Rattle.texts.specs.Numbers.{number_from}
@@ -18,7 +18,7 @@ use Rattle.texts.proofs.Digits.{digit_run_most}
 use Rattle.texts.proofs.Numbers.{number_end}
 use Rattle.texts.proofs.Newline.{Clear, clear_fewer, clear_more, clear_text, digit_clear, run_clear, number_clear}
 use Rattle.dualrun_text.specs.declared.Request.{Request}
-use Rattle.dualrun_text.specs.declared.Request.TheVariants.{Lu, Eig, Unreadable}
+use Rattle.dualrun_text.specs.declared.Request.TheVariants.{Lu, Eig}
 use Rattle.dualrun_text.specs.Request.{number_digits, longest_line, after, number_then, lu_line, limit_line, eig_line, lu_word, eig_word, request_of}
 
 -- ---- the two words have no newline, nor has a text where it begins with one
@@ -73,39 +73,42 @@ module _ (s t : List ℕ) (same : (i : ℕ) → i < longest_line → Clear t i �
   number_same p h c =
       let most = number_digits + 1 in
       let k = digit_run 10 most t p in
-      ap (λ (j : ℕ). cond (ltb 0 j && leb j number_digits) (Is (number_at 10 s p j) (p + j)) Not) (run_same most p h c)
+      ap (λ (j : ℕ). cond (ltb 0 j && leb j number_digits) (found (number_at 10 s p j) j) None) (run_same most p h c)
       ∙ (let m = digit_run_most 10 t most p in
-      ap (λ (v : ℕ). cond (ltb 0 k && leb k number_digits) (Is v (p + k)) Not) (spelled_same p k (omega arith) (run_clear t most p c)))
+      ap (λ (v : ℕ). cond (ltb 0 k && leb k number_digits) (found v k) None) (spelled_same p k (omega arith) (run_clear t most p c)))
+    where
+      found : ℕ → ℕ → Option Number
+      found v k = Some (record { value = v; end = p + k })
 
-  module _ (p wanted : ℕ) (f g : ℕ → ℕ → Request) (h : p + (number_digits + 1) ≤ longest_line) (c : Clear t p) (agree : (v e : ℕ) → e ≤ p + number_digits → Clear t e → byte_at t e ≡ wanted → f v (e + 1) ≡ g v (e + 1)) where
-    after_same : (m : Number) → m ≡ number_from number_digits t p → after s wanted f m ≡ after t wanted g m
-    after_same (Is v e) r =
-        let k = number_end number_digits t p v e (sym r) in
-        let d = number_clear t number_digits p v e (sym r) c in
-        ap (λ (b : ℕ). cond (eqb b wanted) (f v (e + 1)) Unreadable) (same e (omega arith) d)
-        ∙ by k d (eqb (byte_at t e) wanted) refl
+  module _ (p wanted : ℕ) (f g : ℕ → ℕ → Option Request) (h : p + (number_digits + 1) ≤ longest_line) (c : Clear t p) (agree : (v e : ℕ) → e ≤ p + number_digits → Clear t e → byte_at t e ≡ wanted → f v (e + 1) ≡ g v (e + 1)) where
+    after_same : (m : Option Number) → m ≡ number_from number_digits t p → after s wanted f m ≡ after t wanted g m
+    after_same (Some n) r =
+        let k = number_end number_digits t p n (sym r) in
+        let d = number_clear t number_digits p n (sym r) c in
+        ap (λ (b : ℕ). cond (eqb b wanted) (f n.value (n.end + 1)) None) (same n.end (omega arith) d)
+        ∙ by k d (eqb (byte_at t n.end) wanted) refl
       where
-        by : e ≤ p + number_digits → Clear t e → (b : Bool) → eqb (byte_at t e) wanted ≡ b → cond b (f v (e + 1)) Unreadable ≡ cond b (g v (e + 1)) Unreadable
-        by k d true q = agree v e k d (eqb-true _ _ q)
+        by : n.end ≤ p + number_digits → Clear t n.end → (b : Bool) → eqb (byte_at t n.end) wanted ≡ b → cond b (f n.value (n.end + 1)) None ≡ cond b (g n.value (n.end + 1)) None
+        by k d true q = agree n.value n.end k d (eqb-true _ _ q)
         by k d false q = refl
-    after_same Not r = refl
+    after_same None r = refl
 
     then_same : number_then s p wanted f ≡ number_then t p wanted g
     unfolding number_then
     then_same = ap (after s wanted f) (number_same p h c) ∙ after_same (number_from number_digits t p) refl
 
   limit_same : (n p : ℕ) → p + (number_digits + 1) ≤ longest_line → Clear t p → limit_line s n p ≡ limit_line t n p
-  limit_same n p h c = then_same p newline (Eig n) (Eig n) h c (λ v e k d q. refl)
+  limit_same n p h c = then_same p newline (λ limit start. Some (Eig n limit start)) (λ limit start. Some (Eig n limit start)) h c (λ v e k d q. refl)
 
   begun_clear : (word : List ℕ) → no_newline word ≡ true → starts_with word t ≡ true → Clear t (length word)
   unfolding starts_with
   begun_clear word none e = begun t word (length word) (clear_text word none) e
 
-  lu_same : (b : Bool) → starts_with lu_word t ≡ b → (q : Request) → cond b (lu_line s) q ≡ cond b (lu_line t) q
-  lu_same true e q = then_same (length lu_word) newline Lu Lu (omega arith) (begun_clear lu_word lu_clear e) (λ v e k d q. refl)
+  lu_same : (b : Bool) → starts_with lu_word t ≡ b → (q : Option Request) → cond b (lu_line s) q ≡ cond b (lu_line t) q
+  lu_same true e q = then_same (length lu_word) newline (λ n start. Some (Lu n start)) (λ n start. Some (Lu n start)) (omega arith) (begun_clear lu_word lu_clear e) (λ v e k d q. refl)
   lu_same false e q = refl
 
-  eig_same : (b : Bool) → starts_with eig_word t ≡ b → (q : Request) → cond b (eig_line s) q ≡ cond b (eig_line t) q
+  eig_same : (b : Bool) → starts_with eig_word t ≡ b → (q : Option Request) → cond b (eig_line s) q ≡ cond b (eig_line t) q
   eig_same true e q =
       then_same (length eig_word) space (limit_line s) (limit_line t) (omega arith) (begun_clear eig_word eig_clear e)
       (λ v e k d q. limit_same v (e + 1) (omega arith) (clear_more t e d (λ z. let y : ◌≡◌ {A = ℕ} newline space = sym z ∙ q in omega arith)))
@@ -114,26 +117,26 @@ module _ (s t : List ℕ) (same : (i : ℕ) → i < longest_line → Clear t i �
   pub request_same : request_of s ≡ request_of t
   unfolding request_of
   request_same =
-      ap (λ (b : Bool). cond b (lu_line s) (cond (starts_with eig_word s) (eig_line s) Unreadable)) (starts_same lu_word (omega arith) lu_clear)
+      ap (λ (b : Bool). cond b (lu_line s) (cond (starts_with eig_word s) (eig_line s) None)) (starts_same lu_word (omega arith) lu_clear)
       ∙ lu_same (starts_with lu_word t) refl _
-      ∙ ap (λ (b : Bool). cond (starts_with lu_word t) (lu_line t) (cond b (eig_line s) Unreadable)) (starts_same eig_word (omega arith) eig_clear)
-      ∙ ap (λ (q : Request). cond (starts_with lu_word t) (lu_line t) q) (eig_same (starts_with eig_word t) refl Unreadable)
+      ∙ ap (λ (b : Bool). cond (starts_with lu_word t) (lu_line t) (cond b (eig_line s) None)) (starts_same eig_word (omega arith) eig_clear)
+      ∙ ap (λ (q : Option Request). cond (starts_with lu_word t) (lu_line t) q) (eig_same (starts_with eig_word t) refl None)
 
 -- ---- where the matrix starts
-abbrev pub start_of : Request → ℕ
-start_of (Lu n start) = start
-start_of (Eig n limit start) = start
-start_of Unreadable = 0
+abbrev pub start_of : Option Request → ℕ
+start_of (Some (Lu n start)) = start
+start_of (Some (Eig n limit start)) = start
+start_of None = 0
 
 module _ (t : List ℕ) where
-  module _ (p wanted most : ℕ) (f : ℕ → ℕ → Request) (small : (v e : ℕ) → e ≤ p + number_digits → start_of (f v (e + 1)) ≤ most) where
-    after_small : (m : Number) → m ≡ number_from number_digits t p → start_of (after t wanted f m) ≤ most
-    after_small (Is v e) r = by (eqb (byte_at t e) wanted)
+  module _ (p wanted most : ℕ) (f : ℕ → ℕ → Option Request) (small : (v e : ℕ) → e ≤ p + number_digits → start_of (f v (e + 1)) ≤ most) where
+    after_small : (m : Option Number) → m ≡ number_from number_digits t p → start_of (after t wanted f m) ≤ most
+    after_small (Some n) r = by (eqb (byte_at t n.end) wanted)
       where
-        by : (b : Bool) → start_of (cond b (f v (e + 1)) Unreadable) ≤ most
-        by true = small v e (number_end number_digits t p v e (sym r))
+        by : (b : Bool) → start_of (cond b (f n.value (n.end + 1)) None) ≤ most
+        by true = small n.value n.end (number_end number_digits t p n (sym r))
         by false = omega arith
-    after_small Not r = omega arith
+    after_small None r = omega arith
 
     then_small : start_of (number_then t p wanted f) ≤ most
     unfolding number_then
@@ -143,44 +146,44 @@ module _ (t : List ℕ) where
   unfolding request_of
   start_small = by (starts_with lu_word t) (starts_with eig_word t)
     where
-      by : (a b : Bool) → start_of (cond a (lu_line t) (cond b (eig_line t) Unreadable)) ≤ longest_line
-      by true b = then_small (length lu_word) newline longest_line Lu (λ v e k. omega arith)
-      by false true = then_small (length eig_word) space longest_line (limit_line t) (λ v e k. then_small (e + 1) newline longest_line (Eig v) (λ w d j. omega arith))
+      by : (a b : Bool) → start_of (cond a (lu_line t) (cond b (eig_line t) None)) ≤ longest_line
+      by true b = then_small (length lu_word) newline longest_line (λ n start. Some (Lu n start)) (λ v e k. omega arith)
+      by false true = then_small (length eig_word) space longest_line (limit_line t) (λ v e k. then_small (e + 1) newline longest_line (λ limit start. Some (Eig v limit start)) (λ w d j. omega arith))
       by false false = omega arith
 
   -- the reader's answer, by its case
-  pub lu_start : (q : Request) (n start : ℕ) → q ≡ Lu n start → q ≡ request_of t → start ≤ longest_line
-  lu_start q n start e g = subst (λ (r : Request). start_of r ≤ longest_line) (sym g ∙ e) start_small
+  pub lu_start : (q : Option Request) (n start : ℕ) → q ≡ Some (Lu n start) → q ≡ request_of t → start ≤ longest_line
+  lu_start q n start e g = subst (λ (r : Option Request). start_of r ≤ longest_line) (sym g ∙ e) start_small
 
-  pub eig_start : (q : Request) (n limit start : ℕ) → q ≡ Eig n limit start → q ≡ request_of t → start ≤ longest_line
-  eig_start q n limit start e g = subst (λ (r : Request). start_of r ≤ longest_line) (sym g ∙ e) start_small
+  pub eig_start : (q : Option Request) (n limit start : ℕ) → q ≡ Some (Eig n limit start) → q ≡ request_of t → start ≤ longest_line
+  eig_start q n limit start e g = subst (λ (r : Option Request). start_of r ≤ longest_line) (sym g ∙ e) start_small
 
   -- ---- no newline as far as the longest line goes: nothing can be read
   module _ (none : Clear t longest_line) where
-    unended : (p : ℕ) (f : ℕ → ℕ → Request) → p + (number_digits + 1) ≤ longest_line → number_then t p newline f ≡ Unreadable
+    unended : (p : ℕ) (f : ℕ → ℕ → Option Request) → p + (number_digits + 1) ≤ longest_line → number_then t p newline f ≡ None
     unfolding number_then
     unended p f h = by (number_from number_digits t p) refl
       where
-        by : (m : Number) → m ≡ number_from number_digits t p → after t newline f m ≡ Unreadable
-        by (Is v e) r = let k = number_end number_digits t p v e (sym r) in ap (λ (b : Bool). cond b (f v (e + 1)) Unreadable) (ne_eqb (byte_at t e) newline (none e (omega arith)))
-        by Not r = refl
+        by : (m : Option Number) → m ≡ number_from number_digits t p → after t newline f m ≡ None
+        by (Some n) r = let k = number_end number_digits t p n (sym r) in ap (λ (b : Bool). cond b (f n.value (n.end + 1)) None) (ne_eqb (byte_at t n.end) newline (none n.end (omega arith)))
+        by None r = refl
 
     -- either way
-    both : (b : Bool) (q : Request) → q ≡ Unreadable → cond b q Unreadable ≡ Unreadable
+    both : (b : Bool) (q : Option Request) → q ≡ None → cond b q None ≡ None
     both true q e = e
     both false q e = refl
 
-    eig_unended : eig_line t ≡ Unreadable
+    eig_unended : eig_line t ≡ None
     unfolding number_then
     eig_unended = by (number_from number_digits t (length eig_word)) refl
       where
-        by : (m : Number) → m ≡ number_from number_digits t (length eig_word) → after t space (limit_line t) m ≡ Unreadable
-        by (Is v e) r = let k = number_end number_digits t (length eig_word) v e (sym r) in both (eqb (byte_at t e) space) (limit_line t v (e + 1)) (unended (e + 1) (Eig v) (omega arith))
-        by Not r = refl
+        by : (m : Option Number) → m ≡ number_from number_digits t (length eig_word) → after t space (limit_line t) m ≡ None
+        by (Some n) r = let k = number_end number_digits t (length eig_word) n (sym r) in both (eqb (byte_at t n.end) space) (limit_line t n.value (n.end + 1)) (unended (n.end + 1) (λ limit start. Some (Eig n.value limit start)) (omega arith))
+        by None r = refl
 
-    pub no_line : request_of t ≡ Unreadable
+    pub no_line : request_of t ≡ None
     unfolding request_of
     no_line =
-        ap (λ (q : Request). cond (starts_with lu_word t) q (cond (starts_with eig_word t) (eig_line t) Unreadable)) (unended (length lu_word) Lu (omega arith))
-        ∙ ap (λ (q : Request). cond (starts_with lu_word t) Unreadable q) (both (starts_with eig_word t) (eig_line t) eig_unended)
-        ∙ both (starts_with lu_word t) Unreadable refl
+        ap (λ (q : Option Request). cond (starts_with lu_word t) q (cond (starts_with eig_word t) (eig_line t) None)) (unended (length lu_word) (λ n start. Some (Lu n start)) (omega arith))
+        ∙ ap (λ (q : Option Request). cond (starts_with lu_word t) None q) (both (starts_with eig_word t) (eig_line t) eig_unended)
+        ∙ both (starts_with lu_word t) None refl

@@ -8,13 +8,18 @@ use native.Mathlib.Omega.{arith}
 use lib.Dec.{leb, ltb, eqb}
 use lib.ListN.{length, get_or-append, length-append}
 use lib.Seq.{get_or-append_seam}
-use borrow.Author.Tests.{leb-true, ltb-true, ltb-false, le-leb, ne_eqb, eqb-false, not-true, not-false}
+use borrow.Author.Tests.{leb-true, ltb-true, ltb-false, le-leb, ne_eqb, eqb-false, not-true}
 use Rattle.texts.specs.Bytes.{newline}
 use Rattle.texts.specs.Digits.{byte_at, no_newline}
 use Rattle.texts.proofs.Every.{both_true}
 use Rattle.texts.proofs.Newline.{Clear, clear_fewer, clear_text, text_clear}
+use Rattle.std.specs.Prelude.{Option, Some, None, Result, Ok, Err}
+use Rattle.std.specs.Result.{is_err}
+use Rattle.refusals.specs.declared.Refusal.{Refusal}
+use Rattle.refusals.specs.Refused.{number, answer_number}
+use Rattle.refusals.proofs.Numbers.{number_positive}
 use Rattle.dualrun_text.specs.declared.Request.{Request}
-use Rattle.dualrun_text.specs.declared.Request.TheVariants.{Lu, Eig, Unreadable}
+use Rattle.dualrun_text.specs.declared.Request.TheVariants.{Lu, Eig}
 use Rattle.dualrun_text.specs.Request.{longest_line, request_of, lu_line_refusal, eig_line_refusal, line_refusal}
 use Rattle.dualrun_text.specs.Output.{lu_output, eig_output, output_for, output_of}
 use Rattle.dualrun_text.specs.Decided.{has_line, decided_of}
@@ -45,23 +50,32 @@ module _ (text rest : List ℕ) (whole : has_line text ≡ true) where
       by i few c false e = absurd (ended i few (ltb-false i (length text) e) c)
 
 -- ---- a refusal by the first line does not look at the text
-refused_same : (s t : List ℕ) (r : Request) → (line_refusal r ≡ 0 → ⊥) → output_for s r ≡ output_for t r
+refused_same : (s t : List ℕ) (r : Option Request) → (line_refusal r ≡ 0 → ⊥) → output_for s r ≡ output_for t r
 unfolding lu_output eig_output
-refused_same s t (Lu n start) h = unless_same (lu_line_refusal n) _ _ (λ z. absurd (h z))
-refused_same s t (Eig n limit start) h = unless_same (eig_line_refusal n limit) _ _ (λ z. absurd (h z))
-refused_same s t Unreadable h = refl
+refused_same s t (Some (Lu n start)) h = unless_same (lu_line_refusal n) _ _ (λ z. absurd (h z))
+refused_same s t (Some (Eig n limit start)) h = unless_same (eig_line_refusal n limit) _ _ (λ z. absurd (h z))
+refused_same s t None h = refl
 
 -- ---- the test, by whether the line has come
-module _ (text : List ℕ) (line : Bool) (tested : line ≡ has_line text) where
-  pub not_come : not line ≡ true → false ≡ decided_of text
+module _ (text : List ℕ) where
+  pub not_come : false ≡ has_line text → false ≡ decided_of text
   unfolding decided_of
-  not_come h = ap (λ (b : Bool). b && not (eqb (line_refusal (request_of text)) 0)) (sym (not-true line h) ∙ tested)
+  not_come h = ap (λ (b : Bool). b && not (eqb (line_refusal (request_of text)) 0)) h
 
-  pub come : (q : Request) (number : ℕ) → not line ≡ false → q ≡ request_of text → number ≡ line_refusal q → not (eqb number 0) ≡ decided_of text
-  unfolding decided_of
-  come q number h asked told =
-      ap (λ (k : ℕ). not (eqb k 0)) (told ∙ ap line_refusal asked)
-      ∙ ap (λ (b : Bool). b && not (eqb (line_refusal (request_of text)) 0)) (sym (not-false line h) ∙ tested)
+  module _ (whole : true ≡ has_line text) where
+    by_refusal : (k : ℕ) → k ≡ line_refusal (request_of text) → not (eqb k 0) ≡ decided_of text
+    unfolding decided_of
+    by_refusal k told = ap (λ (j : ℕ). not (eqb j 0)) told ∙ ap (λ (b : Bool). b && not (eqb (line_refusal (request_of text)) 0)) whole
+
+    pub come_unreadable : None ≡ request_of text → true ≡ decided_of text
+    come_unreadable asked = by_refusal (line_refusal None) (ap line_refusal asked)
+
+    pub come : (q : Request) (r : Result (Unit {0}) Refusal) → Some q ≡ request_of text → answer_number r ≡ line_refusal (Some q) → is_err r ≡ decided_of text
+    come q r asked told = refused r ∙ by_refusal (answer_number r) (told ∙ ap line_refusal asked)
+      where
+        refused : (s : Result (Unit {0}) Refusal) → is_err s ≡ not (eqb (answer_number s) 0)
+        refused (Ok x) = refl
+        refused (Err e) = ap not (sym (ne_eqb (number e) 0 (λ z. omega (arith, number_positive e))))
 
 -- what the program stands on: where the beginning of a text decides, the rest need not be read
 pub decided_output : (text rest : List ℕ) → decided_of text ≡ true → output_of (text ++ rest) ≡ output_of text
@@ -92,11 +106,11 @@ module _ (line : List ℕ) where
   unfolding decided_of
   line_decided rest h =
       ap (λ (b : Bool). b && not (eqb (line_refusal (request_of (line ++ newline ∷ []))) 0)) has_line_lem
-      ∙ ap (λ (r : Request). not (eqb (line_refusal r) 0)) (sym (line_request rest)) ∙ ap not (ne_eqb _ 0 h)
+      ∙ ap (λ (r : Option Request). not (eqb (line_refusal r) 0)) (sym (line_request rest)) ∙ ap not (ne_eqb _ 0 h)
 
 -- 24 bytes with no newline among them cannot be read, which decides
 pub long_line_decided : (text : List ℕ) → longest_line ≤ length text → no_newline text ≡ true → decided_of text ≡ true
 unfolding decided_of has_line
 long_line_decided text h none =
     ap (λ (b : Bool). (b || not (no_newline text)) && not (eqb (line_refusal (request_of text)) 0)) (le-leb longest_line (length text) h)
-    ∙ ap (λ (r : Request). not (eqb (line_refusal r) 0)) (no_line text (clear_fewer text longest_line (clear_text text none) h))
+    ∙ ap (λ (r : Option Request). not (eqb (line_refusal r) 0)) (no_line text (clear_fewer text longest_line (clear_text text none) h))

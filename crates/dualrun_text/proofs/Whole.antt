@@ -20,8 +20,9 @@ use Rattle.texts.specs.Numbers.{decimal_text}
 use Rattle.texts.specs.Page.{page, written}
 use Rattle.texts.proofs.Page.{written_fits}
 use Rattle.texts.proofs.Decimals.{length_decimal, length_hex}
+use Rattle.std.specs.Prelude.{Option, Some, None}
 use Rattle.dualrun_text.specs.declared.Request.{Request}
-use Rattle.dualrun_text.specs.declared.Request.TheVariants.{Lu, Eig, Unreadable}
+use Rattle.dualrun_text.specs.declared.Request.TheVariants.{Lu, Eig}
 use Rattle.dualrun_text.specs.Request.{longest_line, request_of, lu_line_refusal, eig_line_refusal}
 use Rattle.dualrun_text.specs.Body.{Fits, is_body, floats_from}
 use Rattle.dualrun_text.specs.Lines.{word_text, refusal_line, pair_line, record_line, record_lines, entry_text, entries, order_line}
@@ -58,10 +59,10 @@ module _ (s t : List ℕ) (ls : most_bytes ≤ length s) (lt : most_bytes ≤ le
   unfolding eig_output
   eig_same n limit start h = unless_same (eig_line_refusal n limit) _ _ (λ z. let f = fits n (eig_few n limit z) in eig_long s n start ls f h limit _ _ ∙ sym (eig_long t n start lt f h limit _ _))
 
-  output_same : (r : Request) → start_of r ≤ longest_line → output_for s r ≡ output_for t r
-  output_same (Lu n start) h = lu_same n start h
-  output_same (Eig n limit start) h = eig_same n limit start h
-  output_same Unreadable h = refl
+  output_same : (r : Option Request) → start_of r ≤ longest_line → output_for s r ≡ output_for t r
+  output_same (Some (Lu n start)) h = lu_same n start h
+  output_same (Some (Eig n limit start)) h = eig_same n limit start h
+  output_same None h = refl
 
 pub read_whole : (text : List ℕ) → output_of (take most_bytes text) ≡ output_of text
 unfolding output_of
@@ -153,10 +154,10 @@ eig_most text n limit start =
     unless_most (eig_line_refusal n limit) _
     (λ e. either (is_body text start (n * n * 2)) _ unreadable (eig_printed_most n (jacobi_left dual_algebra dual_layout n (floats_from text start (n * n * 2)) limit (replicate (n * 2) float.zero) (replicate (n * n * 2) float.zero)) (fits n (eig_few n limit e))) (omega (arith, length_refusal refusal.unreadable)))
 
-output_most : (text : List ℕ) (r : Request) → length (output_for text r) ≤ most_bytes
-output_most text (Lu n start) = lu_most text n start
-output_most text (Eig n limit start) = eig_most text n limit start
-output_most text Unreadable = omega (arith, length_refusal refusal.unreadable)
+output_most : (text : List ℕ) (r : Option Request) → length (output_for text r) ≤ most_bytes
+output_most text (Some (Lu n start)) = lu_most text n start
+output_most text (Some (Eig n limit start)) = eig_most text n limit start
+output_most text None = omega (arith, length_refusal refusal.unreadable)
 
 pub written_whole : (text : List ℕ) → length (output_of text) ≤ most_bytes
 unfolding output_of

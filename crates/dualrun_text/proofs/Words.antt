@@ -10,22 +10,21 @@ use lib.Seq.{ext_get_or, get_or-set_same, get_or-set_other}
 use lib.Ieee.{Float, nan, binary64, of_bits}
 use borrow.Author.Count.{below_more}
 use borrow.Author.Tests.{eq-eqb, ne_eqb}
+use Rattle.std.specs.Prelude.{Option, Some, None}
 use Rattle.algebra.specs.Flat.{tabulate}
 use Rattle.algebra.proofs.Flat.{tabulate_length, tabulate_at}
 use Rattle.texts.specs.declared.Scan.{Scan}
 use Rattle.texts.specs.Digits.{byte_at, every, number_at, scan_of}
 use Rattle.texts.proofs.Every.{and_false, every_false, Passed, passed_none, passed_more, passed_all}
-use Rattle.dualrun_text.specs.declared.Word.{Word}
-use Rattle.dualrun_text.specs.declared.Word.TheVariants.{Is, Not}
 use Rattle.dualrun_text.specs.Body.{word_digits, word_bytes, separator_of, is_word, word_of, word_at, is_body, float_at, floats_from}
 
 -- ---- word number i, by the tests of its reader
 module _ (text : List ℕ) (start i : ℕ) where
-  by_test : (t : Bool) → is_word text start i ≡ t → cond t (Is (word_of text start i)) Not ≡ word_at text start i
-  by_test t e = ap (λ (x : Bool). cond x (Is (word_of text start i)) Not) (sym e)
+  by_test : (t : Bool) → is_word text start i ≡ t → cond t (Some (word_of text start i)) None ≡ word_at text start i
+  by_test t e = ap (λ (x : Bool). cond x (Some (word_of text start i)) None) (sym e)
 
   module _ (s : Scan) (scanned : s ≡ scan_of 16 word_digits text (start + word_bytes * i)) where
-    pub word_short : (s.digits ≡ word_digits → ⊥) → Not ≡ word_at text start i
+    pub word_short : (s.digits ≡ word_digits → ⊥) → None ≡ word_at text start i
     unfolding is_word
     word_short h =
         by_test false
@@ -40,36 +39,36 @@ module _ (text : List ℕ) (start i : ℕ) where
           (ap (λ (x : Scan). eqb x.digits word_digits) (sym scanned) ∙ eq-eqb s.digits word_digits whole)
           ∙ ap (λ (x : ℕ). eqb x (separator_of i)) (sym at) ∙ ap (eqb b) (sym wanted) ∙ e
 
-      pub word_unended : (b ≡ w → ⊥) → Not ≡ word_at text start i
+      pub word_unended : (b ≡ w → ⊥) → None ≡ word_at text start i
       word_unended h = by_test false (by_separator false (ne_eqb b w h))
 
-      pub word_read : b ≡ w → Is s.value ≡ word_at text start i
+      pub word_read : b ≡ w → Some s.value ≡ word_at text start i
       unfolding word_of
       word_read h =
-          ap Is (ap (λ (x : Scan). x.value) scanned ∙ ap (number_at 16 text (start + word_bytes * i)) (ap (λ (x : Scan). x.digits) (sym scanned) ∙ whole))
+          ap (λ (v : ℕ). Some v) (ap (λ (x : Scan). x.value) scanned ∙ ap (number_at 16 text (start + word_bytes * i)) (ap (λ (x : Scan). x.digits) (sym scanned) ∙ whole))
           ∙ by_test true (by_separator true (eq-eqb b w h))
 
   -- and back: what the reader's answer says of the test
-  tell : Word → Bool
-  tell (Is w) = true
-  tell Not = false
+  tell : Option ℕ → Bool
+  tell (Some w) = true
+  tell None = false
 
-  told : (t : Bool) → tell (cond t (Is (word_of text start i)) Not) ≡ t
+  told : (t : Bool) → tell (cond t (Some (word_of text start i)) None) ≡ t
   unfolding tell
   told true = refl
   told false = refl
 
-  module _ (w : Word) (read : w ≡ word_at text start i) where
-    pub not_word : w ≡ Not → is_word text start i ≡ false
+  module _ (w : Option ℕ) (read : w ≡ word_at text start i) where
+    pub not_word : w ≡ None → is_word text start i ≡ false
     unfolding tell
     not_word g = sym (told (is_word text start i)) ∙ ap tell (sym read ∙ g)
 
-    pub is_word_lem : (v : ℕ) → w ≡ Is v → is_word text start i ≡ true
+    pub is_word_lem : (v : ℕ) → w ≡ Some v → is_word text start i ≡ true
     unfolding tell
     is_word_lem v g = sym (told (is_word text start i)) ∙ ap tell (sym read ∙ g)
 
-    pub word_spells : (v : ℕ) → w ≡ Is v → v ≡ word_of text start i
-    word_spells v g = let h : Is v ≡ Is (word_of text start i) = sym g ∙ read ∙ sym (by_test true (is_word_lem v g)) in cc
+    pub word_spells : (v : ℕ) → w ≡ Some v → v ≡ word_of text start i
+    word_spells v g = let h : Some v ≡ Some (word_of text start i) = sym g ∙ read ∙ sym (by_test true (is_word_lem v g)) in cc
 
 -- ---- the lines whole
 -- what the reader keeps: the words below i are good, and their floats stand in the matrix of m floats
@@ -92,14 +91,14 @@ module _ (text : List ℕ) (start : ℕ) where
     body_other_length h = sym (ap (λ (t : Bool). t && every (is_word text start) m) (ne_eqb _ _ h))
 
     module _ (l : List Float) (i : ℕ) (reading : Reading text start m l i) where
-      pub body_other_word : (w : Word) → i < length l → w ≡ word_at text start i → w ≡ Not → false ≡ is_body text start m
+      pub body_other_word : (w : Option ℕ) → i < length l → w ≡ word_at text start i → w ≡ None → false ≡ is_body text start m
       unfolding is_body
       body_other_word w h read e =
           sym
           (ap (λ (t : Bool). eqb (length text) (start + word_bytes * m) && t) (every_false (is_word text start) m i (omega (arith, reading.size)) (not_word text start i w read e))
           ∙ and_false (eqb (length text) (start + word_bytes * m)))
 
-      pub reading_more : (w : Word) (v : ℕ) (x : Float) → i < length l → w ≡ word_at text start i → w ≡ Is v → x ≡ of_bits binary64 v → Reading text start m (set l i x) (i + 1)
+      pub reading_more : (w : Option ℕ) (v : ℕ) (x : Float) → i < length l → w ≡ word_at text start i → w ≡ Some v → x ≡ of_bits binary64 v → Reading text start m (set l i x) (i + 1)
       reading_more w v x inside read is e =
           record {
             size = simp length-set reading.size;

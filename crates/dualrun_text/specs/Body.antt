@@ -1,14 +1,12 @@
 -- The lines after the first: two words of 16 lowercase hex digits, a space between them, a newline at the end. So every word has 16 digits and one byte
 -- after it, and word number i of the lines that begin at `start` stands at start + 17 * i. Definitions only.
-use Rattle.std.specs.Prelude.{ℕ, ◌+◌, ◌*◌, ◌%◌, ◌≤◌, Bool, cond, ◌&&◌, List, eqb, length, Float}
+use Rattle.std.specs.Prelude.{ℕ, ◌+◌, ◌*◌, ◌%◌, ◌≤◌, Bool, cond, ◌&&◌, Option, Some, None, List, eqb, length, Float}
 use Rattle.std.specs.Float.{binary64}
 use Rattle.std.specs.Float.Ieee.{of_bits}
 use Rattle.refusals.specs.Largest as largest
 use Rattle.texts.specs.Bytes.{newline, space}
 use Rattle.texts.specs.Digits.{byte_at, every, digit_run, number_at}
 use Rattle.algebra.specs.Flat.{tabulate}
-use Rattle.dualrun_text.specs.declared.Word.{Word}
-use Rattle.dualrun_text.specs.declared.Word.TheVariants.{Is, Not}
 
 -- the digits of a word, and its bytes with the one after it
 abbrev pub word_digits : ℕ
@@ -39,8 +37,8 @@ unfoldable pub word_of : List ℕ → ℕ → ℕ → ℕ
 word_of text start i = number_at 16 text (start + word_bytes * i) word_digits
 
 -- word number i, if it is one
-abbrev pub word_at : List ℕ → ℕ → ℕ → Word
-word_at text start i = cond (is_word text start i) (Is (word_of text start i)) Not
+abbrev pub word_at : List ℕ → ℕ → ℕ → Option ℕ
+word_at text start i = cond (is_word text start i) (Some (word_of text start i)) None
 
 -- from start on the text is so many words in such lines, and nothing after
 unfoldable pub is_body : List ℕ → ℕ → ℕ → Bool

@@ -1,5 +1,5 @@
 -- What `dualrun` writes for a text: the request of its first line, the entry's answer, the lines printed. Definitions only.
-use Rattle.std.specs.Prelude.{ℕ, ◌*◌, cond, List, ◌++◌, eqb, replicate, Float}
+use Rattle.std.specs.Prelude.{ℕ, ◌*◌, cond, Option, Some, None, List, ◌++◌, eqb, replicate, Float}
 use Rattle.refusals.specs.Number as refusal
 use Rattle.real.specs.Operations.{zero}
 use Rattle.algebra.specs.Outcome.{Outcome, value, refused}
@@ -7,7 +7,7 @@ use Rattle.dual.specs.Rules.{dual_algebra, dual_layout}
 use Rattle.matrices.specs.Entries.{LuLeft, lu_left}
 use Rattle.jacobi.specs.Entry.{JacobiLeft, jacobi_left}
 use Rattle.dualrun_text.specs.declared.Request.{Request}
-use Rattle.dualrun_text.specs.declared.Request.TheVariants.{Lu, Eig, Unreadable}
+use Rattle.dualrun_text.specs.declared.Request.TheVariants.{Lu, Eig}
 use Rattle.dualrun_text.specs.Request.{request_of, lu_line_refusal, eig_line_refusal}
 use Rattle.dualrun_text.specs.Body.{is_body, floats_from}
 use Rattle.dualrun_text.specs.Lines.{refusal_line, pair_line, record_lines, order_line}
@@ -63,10 +63,10 @@ unfoldable pub eig_output : List ℕ → ℕ → ℕ → ℕ → List ℕ
 eig_output text n limit start = unless_refused (eig_line_refusal n limit) (eig_in_room text n limit start)
 
 -- what a request gives
-abbrev pub output_for : List ℕ → Request → List ℕ
-output_for text (Lu n start) = lu_output text n start
-output_for text (Eig n limit start) = eig_output text n limit start
-output_for text Unreadable = unreadable
+abbrev pub output_for : List ℕ → Option Request → List ℕ
+output_for text (Some (Lu n start)) = lu_output text n start
+output_for text (Some (Eig n limit start)) = eig_output text n limit start
+output_for text None = unreadable
 
 -- what a text gives
 unfoldable pub output_of : List ℕ → List ℕ

@@ -7,11 +7,15 @@ mod lu;
 mod read;
 mod write;
 
-ghost use Rattle.std.specs.Prelude.{◌≡◌, ◌≤◌, length, take};
-ghost use Rattle.texts.specs.Page.{page, written};
+ghost use Rattle.std.specs.Prelude.{◌≡◌, ◌≤◌, Some, length, take};
+ghost use Rattle.refusals.specs.Refused.{answer_number};
+ghost use Rattle.texts.specs.Page.{page, written, Puts};
 ghost use Rattle.dualrun_text.specs.Request.{line_refusal};
 ghost use Rattle.dualrun_text.specs.Output.{output_of};
 ghost use Rattle.dualrun_text.specs.Decided.{decided_of};
+
+use refusals::Refusal;
+use texts::write::Writer;
 
 // The bytes of the longest first line that can be read: `eig `, nine digits, a space, nine digits and a newline.
 pub const LONGEST_LINE: usize = 24;
@@ -41,27 +45,29 @@ enum Request {
         limit: usize,
         start: usize,
     },
-    Unreadable,
 }
 
 impl Request {
-    // The number that the first line is refused by, 0 where it is not.
-    fn line_refusal(self) -> u32
-        ensures { result ≡ line_refusal self }
+    // What the first line is refused for.
+    fn line_refusal(self) -> Result<(), Refusal>
+        ensures { answer_number result ≡ line_refusal (Some self) }
     {
         match self {
             Request::Lu { n, start: _ } => lu::line_refusal(n),
             Request::Eig { n, limit, start: _ } => eig::line_refusal(n, limit),
-            Request::Unreadable => refusals::UNREADABLE,
         }
     }
 }
 
-// A word of the matrix.
-#[derive(Clone, Copy)]
-enum Word {
-    Is(u64),
-    Not,
+// What the runner writes for a text.
+fn answer(page: &mut Writer, text: &[u8])
+    ensures { Puts page.old page.new (output_of text.now) }
+{
+    match read::request(text) {
+        Some(Request::Lu { n, start }) => lu::command(page, text, n, start),
+        Some(Request::Eig { n, limit, start }) => eig::command(page, text, n, limit, start),
+        None => write::refusal(page, Refusal::Unreadable),
+    }
 }
 
 // What the runner writes for a text, put at the start of a lent buffer, as far as it fits: the number of bytes put there. The rest of the buffer stays
@@ -70,11 +76,9 @@ pub fn run(text: &[u8], out: &mut [u8]) -> usize
     ensures output { page out.new result ≡ written (page out.old 0) (output_of text.now) }
     ensures counts { (result ≤ length out.new) × (result ≡ length (take result out.new)) }
 {
-    match read::request(text) {
-        Request::Lu { n, start } => lu::command(text, out, n, start),
-        Request::Eig { n, limit, start } => eig::command(text, out, n, limit, start),
-        Request::Unreadable => write::refusal(out, 0, refusals::UNREADABLE),
-    }
+    let mut page = Writer::new(out);
+    answer(&mut page, text);
+    page.used
 }
 
 // Whether the text decides the output, whatever follows it: its first line has come, and is refused 1, 3 or 4 or cannot be read.
@@ -84,6 +88,8 @@ pub fn decided(text: &[u8]) -> bool
     if !read::has_line(text) {
         return false;
     }
-    let request = read::request(text);
-    request.line_refusal() != 0
+    let Some(request) = read::request(text) else {
+        return true;
+    };
+    request.line_refusal().is_err()
 }

@@ -1,87 +1,73 @@
 // Reading: the first line, and the words of the matrix.
-ghost use Rattle.std.specs.Prelude.{◌≡◌, true, ◌≤◌, ◌<◌, length};
+ghost use Rattle.std.specs.Prelude.{◌≡◌, ◌≤◌, ◌<◌, true, false, length, MatchResult};
+ghost use Rattle.refusals.specs.declared.Refusal.TheVariants.{Unreadable};
 ghost use Rattle.dualrun_text.specs.Request.{longest_line, lu_line, eig_line, limit_line, request_of};
 ghost use Rattle.dualrun_text.specs.Decided.{has_line};
 ghost use Rattle.dualrun_text.specs.Body.{most_floats, separator_of, word_at, is_body, floats_from};
 
-use super::{Request, Word};
-use texts::Number;
+use super::Request;
+use refusals::Refusal;
+use texts::read;
 
 // N and the newline, after `lu `.
-fn lu_line(text: &[u8]) -> Request
+fn lu_line(text: &[u8]) -> Option<Request>
     ensures { result ≡ lu_line text.now }
 {
-    let Number::Is { value, end } = texts::read::number(text, 3, super::NUMBER_DIGITS) else {
-        return Request::Unreadable;
-    };
-    if texts::read::byte_at(text, end) != b'\n' {
-        return Request::Unreadable;
+    let n = read::number(text, 3, super::NUMBER_DIGITS)?;
+    if read::byte_at(text, n.end) != b'\n' {
+        return None;
     }
-    Request::Lu {
-        n: value,
-        start: end + 1,
-    }
+    Some(Request::Lu {
+        n: n.value,
+        start: n.end + 1,
+    })
 }
 
 // S and the newline, after N.
-fn limit_line(text: &[u8], n: usize, p: usize) -> Request
+fn limit_line(text: &[u8], n: usize, p: usize) -> Option<Request>
     requires { p ≤ longest_line }
     ensures { result ≡ limit_line text.now n p }
 {
-    let Number::Is { value, end } = texts::read::number(text, p, super::NUMBER_DIGITS) else {
-        return Request::Unreadable;
-    };
-    if texts::read::byte_at(text, end) != b'\n' {
-        return Request::Unreadable;
+    let limit = read::number(text, p, super::NUMBER_DIGITS)?;
+    if read::byte_at(text, limit.end) != b'\n' {
+        return None;
     }
-    Request::Eig {
+    Some(Request::Eig {
         n,
-        limit: value,
-        start: end + 1,
-    }
+        limit: limit.value,
+        start: limit.end + 1,
+    })
 }
 
 // N and a space, after `eig `, then S.
-fn eig_line(text: &[u8]) -> Request
+fn eig_line(text: &[u8]) -> Option<Request>
     ensures { result ≡ eig_line text.now }
 {
-    let Number::Is { value, end } = texts::read::number(text, 4, super::NUMBER_DIGITS) else {
-        return Request::Unreadable;
-    };
-    if texts::read::byte_at(text, end) != b' ' {
-        return Request::Unreadable;
+    let n = read::number(text, 4, super::NUMBER_DIGITS)?;
+    if read::byte_at(text, n.end) != b' ' {
+        return None;
     }
-    limit_line(text, value, end + 1)
+    limit_line(text, n.value, n.end + 1)
 }
 
 // What the first line asks.
-pub(crate) fn request(text: &[u8]) -> Request
+pub(crate) fn request(text: &[u8]) -> Option<Request>
     ensures { result ≡ request_of text.now }
 {
-    if texts::read::starts_with(b"lu ", text) {
+    if read::starts_with(b"lu ", text) {
         return lu_line(text);
     }
-    if texts::read::starts_with(b"eig ", text) {
+    if read::starts_with(b"eig ", text) {
         return eig_line(text);
     }
-    Request::Unreadable
+    None
 }
 
 // The first line has come: a newline, or as many bytes as the longest line has that can be read.
 pub(crate) fn has_line(text: &[u8]) -> bool
     ensures { result ≡ has_line text.now }
 {
-    if super::LONGEST_LINE <= text.len() {
-        return true;
-    }
-    let mut i = 0;
-    while i < text.len() {
-        if text[i] == b'\n' {
-            return true;
-        }
-        i += 1;
-    }
-    false
+    super::LONGEST_LINE <= text.len() || text.contains(&b'\n')
 }
 
 // The byte after word number i.
@@ -92,38 +78,37 @@ fn separator(i: usize) -> u8
 }
 
 // Word number i of the lines that begin at `start`.
-fn word(text: &[u8], start: usize, i: usize) -> Word
+fn word(text: &[u8], start: usize, i: usize) -> Option<u64>
     requires { (start ≤ longest_line) × (i < most_floats) }
     ensures { result ≡ word_at text.now start i }
 {
     let p = start + super::WORD_BYTES * i;
-    let s = texts::read::scan(text, p, 16, super::WORD_DIGITS);
+    let s = read::scan(text, p, 16, super::WORD_DIGITS);
     let digits = s.digits;
     if digits != super::WORD_DIGITS {
-        return Word::Not;
+        return None;
     }
-    if texts::read::byte_at(text, p + super::WORD_DIGITS) != separator(i) {
-        return Word::Not;
+    if read::byte_at(text, p + super::WORD_DIGITS) != separator(i) {
+        return None;
     }
-    Word::Is(s.value)
+    Some(s.value)
 }
 
-// The lines from `start` on into the matrix, which they fill; false where they are not as they should be.
-pub(crate) fn body(text: &[u8], start: usize, matrix: &mut [f64]) -> bool
+// The lines from `start` on into the matrix, which they fill; refused where they are not as they should be.
+pub(crate) fn body(text: &[u8], start: usize, matrix: &mut [f64]) -> Result<(), Refusal>
     requires { (start ≤ longest_line) × (length matrix.old ≤ most_floats) }
-    ensures value { result ≡ is_body text.now start (length matrix.old) }
-    ensures matrix_after { result ≡ true → matrix.new ≡ floats_from text.now start (length matrix.old) }
+    ensures { MatchResult result
+        (λ _. (is_body text.now start (length matrix.old) ≡ true) × (matrix.new ≡ floats_from text.now start (length matrix.old)))
+        (λ refusal. (is_body text.now start (length matrix.old) ≡ false) × (refusal ≡ Unreadable)) }
 {
     if text.len() != start + super::WORD_BYTES * matrix.len() {
-        return false;
+        return Err(Refusal::Unreadable);
     }
-    let mut i = 0;
-    while i < matrix.len() {
-        let Word::Is(w) = word(text, start, i) else {
-            return false;
+    for (i, x) in matrix.iter_mut().enumerate() {
+        let Some(word) = word(text, start, i) else {
+            return Err(Refusal::Unreadable);
         };
-        matrix[i] = real::float_of_word(w);
-        i += 1;
+        *x = real::float_of_word(word);
     }
-    true
+    Ok(())
 }

@@ -5,7 +5,7 @@ ghost use Rattle.matrices.specs.Entries.{lu_left, solve_left, inverse_left, dete
 ghost use Rattle.exports.specs.Numbered.{lu_numbered, solve_numbered, hyper_dual_determinant_numbered};
 
 use super::linalg::lu_number;
-use hyperdual::HyperDualAnswer;
+use hyperdual::HyperDual;
 
 // The factors of a and the order of its rows. `swaps_or_column` is written at 0, with the swap count, and at 6, with the column in which no pivot exceeds zero.
 pub fn evindrast_hyperdual_lu(
@@ -17,8 +17,7 @@ pub fn evindrast_hyperdual_lu(
 ) -> u32
     ensures { (result, (swaps_or_column.new, (factors.new, order.new))) ≡ lu_numbered swaps_or_column.old (lu_left hyper_dual_algebra hyper_dual_layout n a.now factors.old order.old) }
 {
-    let answer = hyperdual_lu::lu(n, a, factors, order);
-    lu_number(answer, swaps_or_column)
+    lu_number(lu::lu::<HyperDual>(n, a, factors, order), swaps_or_column)
 }
 
 // x with a * x = b, from the factors and the order of a.
@@ -31,8 +30,7 @@ pub fn evindrast_hyperdual_solve(
 ) -> u32
     ensures { (result, x.new) ≡ solve_numbered (solve_left hyper_dual_algebra hyper_dual_layout n factors.now order.now b.now x.old) }
 {
-    let answer = hyperdual_lu::solve(n, factors, order, b, x);
-    answer.number()
+    refusals::answer_number(lu::solve::<HyperDual>(n, factors, order, b, x))
 }
 
 // The determinant, from the factors, the order and the swap count, in its four parts.
@@ -48,16 +46,15 @@ pub fn evindrast_hyperdual_determinant(
 ) -> u32
     ensures { (result, (re.new, (eps1.new, (eps2.new, eps1eps2.new)))) ≡ hyper_dual_determinant_numbered re.old eps1.old eps2.old eps1eps2.old (determinant_left hyper_dual_algebra hyper_dual_layout n factors.now order.now swaps) }
 {
-    let answer = hyperdual_lu::determinant(n, factors, order, swaps);
-    match answer {
-        HyperDualAnswer::Value(x) => {
+    match lu::determinant::<HyperDual>(n, factors, order, swaps) {
+        Ok(x) => {
             *re = x.re;
             *eps1 = x.eps1;
             *eps2 = x.eps2;
             *eps1eps2 = x.eps1eps2;
             0
         }
-        HyperDualAnswer::Refused(number) => number,
+        Err(refusal) => refusal.number(),
     }
 }
 
@@ -70,6 +67,5 @@ pub fn evindrast_hyperdual_inverse(
 ) -> u32
     ensures { (result, out.new) ≡ solve_numbered (inverse_left hyper_dual_algebra hyper_dual_layout n factors.now order.now out.old) }
 {
-    let answer = hyperdual_lu::inverse(n, factors, order, out);
-    answer.number()
+    refusals::answer_number(lu::inverse::<HyperDual>(n, factors, order, out))
 }

@@ -11,20 +11,12 @@ pub fn copy(from: &[f64], to: &mut [f64])
     requires { length to.old ≡ length from.now }
     ensures { to.new ≡ from.now }
 {
-    let mut i = 0;
-    while i < to.len() {
-        to[i] = from[i];
-        i += 1;
-    }
+    to.copy_from_slice(from);
 }
 
 // +0.0 everywhere.
 pub fn clear(to: &mut [f64])
     ensures { to.new ≡ replicate (length to.old) float.zero }
 {
-    let mut i = 0;
-    while i < to.len() {
-        to[i] = 0.0;
-        i += 1;
-    }
+    to.fill(0.0);
 }

@@ -7,21 +7,15 @@ ghost use Rattle.floats.specs.Words.{floats_of, first_floats, words_of};
 pub fn part(words: &[u64], i: usize) -> f64
     ensures { result ≡ get_or (floats_of words.now) i float.zero }
 {
-    if i < words.len() {
-        real::float_of_word(words[i])
-    } else {
-        0.0
-    }
+    words.get(i).map_or(0.0, |word| real::float_of_word(*word))
 }
 
 // The floats of the first words, as many as are lent; +0.0 where there is no word.
 pub fn read(words: &[u64], floats: &mut [f64])
     ensures { floats.new ≡ first_floats words.now (length floats.old) }
 {
-    let mut i = 0;
-    while i < floats.len() {
-        floats[i] = part(words, i);
-        i += 1;
+    for (i, float) in floats.iter_mut().enumerate() {
+        *float = part(words, i);
     }
 }
 
@@ -30,10 +24,8 @@ pub fn put(parts: &[f64], out: &mut [u64])
     requires { length out.old ≡ length parts.now }
     ensures { out.new ≡ words_of parts.now }
 {
-    let mut i = 0;
-    while i < out.len() {
-        out[i] = real::word_of_float(parts[i]);
-        i += 1;
+    for (i, word) in out.iter_mut().enumerate() {
+        *word = real::word_of_float(parts[i]);
     }
 }
 
@@ -42,6 +34,5 @@ pub fn put_one(x: f64, out: &mut [u64])
     requires { length out.old ≡ 1 }
     ensures { out.new ≡ words_of (x ∷ []) }
 {
-    let parts = [x];
-    put(&parts, out);
+    put(&[x], out);
 }

@@ -6,21 +6,17 @@ use mathlib.Core.List.{List, [], ◌∷◌, ◌++◌}
 use native.Mathlib.Nat.{pow-suc, mul_assoc, div-lt_iff_lt-mul}
 use native.Mathlib.Omega.{arith}
 use lib.Dec.{ltb, lit<}
-use lib.ListN.{length, get_or-append}
+use lib.ListN.{get_or-append}
 use borrow.Author.Tests.{lt-ltb, ltb-true}
 use Rattle.io.specs.Digits.{last_digits, hex_digit_ascii}
 use Rattle.refusals.specs.Largest as largest
 use Rattle.texts.specs.Bytes as byte
 use Rattle.texts.specs.Digits.{byte_at, is_digit, digit_value}
 use Rattle.texts.specs.Numbers.{places, decimal_text}
-use Rattle.texts.specs.Whole.{worth, past}
+use Rattle.texts.specs.Whole.{worth, past, AllDigits}
 use Rattle.texts.proofs.Digits.{value_digit}
 use Rattle.texts.proofs.Decimals.{length_digits}
 use Rattle.market.specs.Format.{Digits}
-
--- every byte is a digit
-abbrev pub AllDigits : List ℕ → Type 0
-AllDigits l = (j : ℕ) → j < length l → is_digit 10 (byte_at l j) ≡ true
 
 pub digits_after : (b : ℕ) (l : List ℕ) → AllDigits (b ∷ l) → AllDigits l
 digits_after b l d j h = d (suc j) (omega arith)

@@ -13,11 +13,11 @@ use Rattle.io.specs.Digits.{last_digits, hex_digit_ascii, IsDigitCount}
 use Rattle.refusals.specs.Largest as largest
 use Rattle.texts.specs.Digits.{digit_value}
 use Rattle.texts.specs.Numbers.{places, decimal_text}
-use Rattle.texts.specs.Whole.{worth}
+use Rattle.texts.specs.Whole.{worth, AllDigits}
 use Rattle.texts.proofs.Decimals.{decimal_is, length_digits}
 use Rattle.texts.proofs.DigitsBack.{glyph_value}
 use Rattle.market.specs.Format.{Digits, Short}
-use Rattle.market.proofs.Decimals.{AllDigits, digits_after, decimal_digits, decimal_worth}
+use Rattle.market.proofs.Decimals.{digits_after, decimal_digits, decimal_worth}
 
 -- the value of the first digit
 first_small : (b : ℕ) (l : List ℕ) → AllDigits (b ∷ l) → digit_value b < 10

@@ -13,11 +13,12 @@ use Rattle.refusals.specs.Number as refusal
 use Rattle.algebra.specs.Outcome.{Outcome, value, refused, map_outcome}
 use Rattle.texts.specs.Bytes as byte
 use Rattle.texts.specs.Digits.{byte_at, is_digit}
-use Rattle.texts.specs.Whole.{worth, past}
+use Rattle.texts.specs.Whole.{worth, past, front}
+use Rattle.texts.proofs.WholeNumbers.{front_worth}
 use Rattle.market.specs.Format.{Digits, Entries, sign, signed}
 use Rattle.market.specs.Format.Entries.{none, entry}
 use Rattle.market.specs.Entries.{Line, line, is_over, magnitude_line, entry_of, entry_then, numbers_of}
-use Rattle.market.proofs.Fronts.{wrong, taken, spared, first_split, front, front_worth, number_digits_lem, number_split}
+use Rattle.market.proofs.Fronts.{wrong, taken, spared, first_split, number_digits_lem, number_split}
 use Rattle.market.proofs.ReadsFormat.{untidy}
 
 -- the entry x, and the text after it, are what the text l begins with

@@ -1,5 +1,5 @@
 -- What was read and not refused, and what stands in front of it: a word, or digits and a byte after them. Assumes nothing.
-use Prim.Native.Nat.{ℕ, zero, suc, ◌+◌, ◌*◌, ◌<◌}
+use Prim.Native.Nat.{ℕ, suc, ◌<◌}
 use mathlib.Core.Path.{◌≡◌, refl, sym, ap, ◌∙◌}
 use mathlib.Core.Bool.{Bool, true, false, cond, ◌&&◌, true≢false}
 use mathlib.Core.List.{List, [], ◌∷◌, ◌++◌}
@@ -9,10 +9,10 @@ use lib.ListN.{length, drop}
 use borrow.Author.Tests.{eqb-true, ltb-true}
 use Rattle.algebra.specs.Outcome.{Outcome, value, refused}
 use Rattle.texts.specs.Digits.{byte_at, every, is_digit, digit_value, starts_with}
-use Rattle.texts.specs.Whole.{worth, past}
+use Rattle.texts.specs.Whole.{past, front}
 use Rattle.texts.proofs.Every.{both_true, every_at}
+use Rattle.texts.proofs.WholeNumbers.{front_past, front_digits}
 use Rattle.market.specs.Format.{Digits, header}
-use Rattle.market.proofs.Decimals.{AllDigits}
 
 -- ---- what was not refused: the tests before it went the one way
 module _ {R : Type 0} (number : ℕ) (r : R) where
@@ -52,41 +52,6 @@ header_split s text e =
     (λ i h. ltb-true 0 (byte_at (header s) i) (every_at (λ j. ltb 0 (byte_at (header s) j)) (length (header s)) i (header_some s) h))
 
 -- ---- the digits in front of a text
-unfoldable pub front : List ℕ → List ℕ
-front [] = []
-front (b ∷ l) = cond (is_digit 10 b) (b ∷ front l) []
-
-pub front_past : (l : List ℕ) → l ≡ front l ++ past l
-unfolding front past
-front_past [] = refl
-front_past (b ∷ l) = by (is_digit 10 b) (front_past l)
-  where
-    by : (t : Bool) → l ≡ front l ++ past l → b ∷ l ≡ cond t (b ∷ front l) [] ++ cond t (past l) (b ∷ l)
-    by true more = ap (λ (r : List ℕ). b ∷ r) more
-    by false more = refl
-
-pub front_worth : (l : List ℕ) (v : ℕ) → worth v (front l) ≡ worth v l
-unfolding front worth
-front_worth [] v = refl
-front_worth (b ∷ l) v = by (is_digit 10 b) refl (front_worth l (v * 10 + digit_value b))
-  where
-    by : (t : Bool) → is_digit 10 b ≡ t → worth (v * 10 + digit_value b) (front l) ≡ worth (v * 10 + digit_value b) l → worth v (cond t (b ∷ front l) []) ≡ cond t (worth (v * 10 + digit_value b) l) v
-    by true e more = rw e more
-    by false e more = refl
-
-pub front_digits : (l : List ℕ) → AllDigits (front l)
-unfolding front
-front_digits [] = λ j h. absurd (omega arith)
-front_digits (b ∷ l) = by (is_digit 10 b) refl (front_digits l)
-  where
-    by : (t : Bool) → is_digit 10 b ≡ t → AllDigits (front l) → AllDigits (cond t (b ∷ front l) [])
-    by true e more = each
-      where
-        each : (j : ℕ) → j < length (b ∷ front l) → is_digit 10 (byte_at (b ∷ front l) j) ≡ true
-        each zero h = e
-        each (suc j) h = more j (omega arith)
-    by false e more = λ j h. absurd (omega arith)
-
 front_some : (l : List ℕ) → is_digit 10 (byte_at l 0) ≡ true → 0 < length (front l)
 unfolding front digit_value
 front_some [] e = absurd (true≢false (sym e))

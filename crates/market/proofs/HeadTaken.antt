@@ -12,12 +12,13 @@ use Rattle.refusals.specs.Number as refusal
 use Rattle.algebra.specs.Outcome.{value, refused}
 use Rattle.texts.specs.Bytes as byte
 use Rattle.texts.specs.Digits.{byte_at, is_digit}
-use Rattle.texts.specs.Whole.{worth, past}
+use Rattle.texts.specs.Whole.{worth, past, front}
+use Rattle.texts.proofs.WholeNumbers.{front_worth}
 use Rattle.texts.proofs.Newline.{Clear, text_clear}
 use Rattle.market.specs.Format.{Digits, Comments}
 use Rattle.market.specs.Format.Comments.{none as uncommented, comment}
 use Rattle.market.specs.Head.{Opened, opened, comments, squared, columns_line, size_line}
-use Rattle.market.proofs.Fronts.{taken, spared, front, front_worth, number_digits_lem, number_split}
+use Rattle.market.proofs.Fronts.{taken, spared, number_digits_lem, number_split}
 
 -- ---- comment lines: what the reader passes, from outside a comment or from inside one, before it comes to r
 pub record Passed (inside : Bool) (l r : List ℕ) : Type 0 where

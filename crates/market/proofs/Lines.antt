@@ -49,7 +49,7 @@ unfolding comments digit_value
 no_comment [] d = refl
 no_comment (b ∷ l) d = ap (λ (t : Bool). cond t (comments (not (eqb b byte.newline)) l) (b ∷ l)) (digit_other b byte.percent d refl)
 
-starts_own : (word l : List ℕ) → starts_with word (word ++ l) ≡ true
+pub starts_own : (word l : List ℕ) → starts_with word (word ++ l) ≡ true
 unfolding starts_with
 starts_own word l = every_true (λ i. eqb (byte_at (word ++ l) i) (byte_at word i)) (length word) (λ i h. eq-eqb (byte_at (word ++ l) i) (byte_at word i) (get_or-append word l 0 i h))
 

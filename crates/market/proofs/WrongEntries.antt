@@ -14,15 +14,16 @@ use Rattle.refusals.specs.Number as refusal
 use Rattle.algebra.specs.Outcome.{Outcome, value, refused, number_of, map_outcome}
 use Rattle.texts.specs.Bytes as byte
 use Rattle.texts.specs.Digits.{byte_at, is_digit, digit_value}
-use Rattle.texts.specs.Whole.{worth, past}
+use Rattle.texts.specs.Whole.{worth, past, front, AllDigits}
+use Rattle.texts.proofs.WholeNumbers.{front_past, front_digits}
 use Rattle.market.specs.Answers.{Left, answered}
 use Rattle.market.specs.Format.{Digits, Entries, CutShort, GoesOn, count_of, sign, signed}
 use Rattle.market.specs.Format.Entries.{none, entry}
 use Rattle.market.specs.Entries.{Line, line, is_over, magnitude_line, entry_of, entry_then, numbers_of}
 use Rattle.market.specs.Head.{Opened, head_of}
 use Rattle.market.specs.Read.{read_numbers, read_body, read_opened, read_left}
-use Rattle.market.proofs.Decimals.{AllDigits, digits_after, worth_more}
-use Rattle.market.proofs.Fronts.{wrong, first_split, front, front_past, front_digits}
+use Rattle.market.proofs.Decimals.{digits_after, worth_more}
+use Rattle.market.proofs.Fronts.{wrong, first_split}
 use Rattle.market.proofs.Lines.{digit_other, entry_read}
 use Rattle.market.proofs.ReadsFormat.{untidy}
 use Rattle.market.proofs.EntriesTaken.{Entered, entry_split, Listed, listed_more}

@@ -1,83 +1,63 @@
 -- The header, comment lines and the size line, way by way: each is a text of the definition with its tests decided. Assumes nothing.
-use Prim.Native.Nat.{ℕ, suc, ◌+◌, ◌<◌, ◌≤◌}
+use Prim.Native.Nat.{ℕ, suc, ◌+◌, ◌-◌, ◌<◌, ◌≤◌}
 use mathlib.Core.Path.{◌≡◌, refl, sym, ap, ◌∙◌, subst}
 use mathlib.Core.Bool.{Bool, true, false, cond, not, ◌||◌, true≢false}
-use mathlib.Core.List.{List, ◌∷◌}
+use mathlib.Core.List.{List, ◌∷◌, ◌++◌}
 use native.Mathlib.Omega.{arith}
-use lib.Dec.{leb, ltb, eqb}
-use lib.ListN.{length, drop, drop_of_length-le}
-use lib.Seq.{drop-cons}
-use borrow.Author.Tests.{lt-ltb, le-ltb, leb-true, leb-false, eq-eqb, ne_eqb, eqb-true}
+use lib.Dec.{leb, eqb}
+use lib.ListN.{length, take, drop, length-drop, drop_of_length-le}
+use lib.Seq.{drop-cons, take_all, take-append_seam}
+use lib.Pointwise.{pointwise}
+use borrow.Author.Tests.{lt-ltb, le-ltb, leb-true, leb-false, eq-eqb, ne_eqb}
+use Rattle.std.specs.Prelude.{Decides}
+use Rattle.std.proofs.lemmas.Bool.Decides.{Decides-eqb}
+use Rattle.std.proofs.lemmas.List.{take-append-drop}
+use Rattle.std.proofs.lemmas.Slice.Eq.{slice_eq-Decides}
 use Rattle.refusals.specs.Number as refusal
 use Rattle.refusals.specs.Largest as largest
 use Rattle.algebra.specs.Outcome.{Outcome, value, refused}
-use Rattle.texts.specs.declared.Scan.{Scan}
+use Rattle.texts.specs.declared.whole.Whole.{Whole}
 use Rattle.texts.specs.Bytes as byte
-use Rattle.texts.specs.Digits.{byte_at, number_at, starts_with}
-use Rattle.texts.specs.Whole.{worth, Capped, Found}
-use Rattle.texts.proofs.Every.{every_at}
-use Rattle.texts.proofs.WholeNumbers.{byte_inside, found_none, found_some, found_next, found_after}
+use Rattle.texts.specs.Digits.{byte_at, starts_with}
+use Rattle.texts.specs.Whole.{worth, past, Capped, Found, AllDigits}
+use Rattle.texts.proofs.WholeNumbers.{front_worth, front_digits}
 use Rattle.market.specs.Format.{header}
+use Rattle.market.proofs.Lines.{starts_own}
+use Rattle.market.proofs.Fronts.{header_split}
+use Rattle.market_reader.proofs.EndedNumbers.{ends}
 use Rattle.market.specs.Head.{Opened, opened, comments, squared, columns_line, size_line, head_of}
-use Rattle.market_reader.specs.declared.Opening.{Opening}
-use Rattle.market_reader.specs.Told.{AfterComments, Opens, TellsHead}
 
--- ---- comment lines
-pub of_comment_not : (inside : Bool) (b : ℕ) → inside ≡ false → eqb b byte.percent ≡ (inside || eqb b byte.percent)
-of_comment_not true b e = absurd (true≢false e)
-of_comment_not false b e = refl
+-- what a slice from i on holds
+pub from_on : {A : Type 0} (l : List A) (i : ℕ) → take (length l - i) (drop i l) ≡ drop i l
+from_on l i = take_all (length l - i) (drop i l) (omega (arith, length-drop i l))
 
--- what the loop keeps: from i on the text is still to be passed as it was from p on
-pub record Passing (text : List ℕ) (p : ℕ) (inside : Bool) (i : ℕ) : Type 0 where
-  pub within : i ≤ length text
-  pub left : comments false (drop p text) ≡ comments inside (drop i text)
-
-module _ (text : List ℕ) (p : ℕ) where
-  pub passing_none : p ≤ length text → Passing text p false p
-  passing_none h = record { within = h; left = refl }
-
-  module _ (inside : Bool) (i : ℕ) (here : Passing text p inside i) where
-    by_first : i < length text → (t : Bool) → (inside || eqb (byte_at text i) byte.percent) ≡ t → comments inside (drop i text) ≡ cond t (comments (not (eqb (byte_at text i) byte.newline)) (drop (suc i) text)) (drop i text)
+-- ---- comment lines: from i on the text is still to be passed as it was from its start on
+module _ (text : List ℕ) (inside : Bool) (i : ℕ) (here : comments false text ≡ comments inside (drop i text)) where
+  module _ (h : i < length text) where
+    by_first : (t : Bool) → (inside || eqb (byte_at text i) byte.percent) ≡ t → comments inside (drop i text) ≡ cond t (comments (not (eqb (byte_at text i) byte.newline)) (drop (suc i) text)) (drop i text)
     unfolding comments
-    by_first h t e =
+    by_first t e =
         ap (comments inside) (drop-cons text i 0 h)
         ∙ ap (λ (x : Bool). cond x (comments (not (eqb (byte_at text i) byte.newline)) (drop (suc i) text)) (byte_at text i ∷ drop (suc i) text)) e
         ∙ ap (cond t (comments (not (eqb (byte_at text i) byte.newline)) (drop (suc i) text))) (sym (drop-cons text i 0 h))
 
-    pub passing_more : (of : Bool) → i < length text → of ≡ (inside || eqb (byte_at text i) byte.percent) → of ≡ true → Passing text p (not (eqb (byte_at text i) byte.newline)) (i + 1)
-    passing_more of h e t = record {
-      within = omega arith;
-      left = here.left ∙ by_first h true (sym e ∙ t) ∙ ap (λ (k : ℕ). comments (not (eqb (byte_at text i) byte.newline)) (drop k text)) (let z : suc i ≡ i + 1 = omega arith in z);
-    }
+    passed : (inside || eqb (byte_at text i) byte.percent) ≡ true → comments false text ≡ comments (not (eqb (byte_at text i) byte.newline)) (drop (i + 1) text)
+    passed e = here ∙ by_first true e ∙ ap (λ (k : ℕ). comments (not (eqb (byte_at text i) byte.newline)) (drop k text)) (let z : suc i ≡ i + 1 = omega arith in z)
 
-    pub passing_stops : (of : Bool) → i < length text → of ≡ (inside || eqb (byte_at text i) byte.percent) → of ≡ false → AfterComments text p i
-    passing_stops of h e t = record { said = sym (here.left ∙ by_first h false (sym e ∙ t)); inside = here.within }
+    pub passing_inside : inside ≡ true → comments false text ≡ comments (not (eqb (byte_at text i) byte.newline)) (drop (i + 1) text)
+    passing_inside e = passed (ap (λ (t : Bool). t || eqb (byte_at text i) byte.percent) e)
 
-    pub passing_ends : length text ≤ i → AfterComments text p i
-    unfolding comments
-    passing_ends h = record { said = sym (here.left ∙ ap (comments inside) (drop_of_length-le text h) ∙ sym (drop_of_length-le text h)); inside = here.within }
+    pub passing_begins : inside ≡ false → byte_at text i ≡ byte.percent → comments false text ≡ comments (not (eqb (byte_at text i) byte.newline)) (drop (i + 1) text)
+    passing_begins e g = passed (ap (λ (t : Bool). t || eqb (byte_at text i) byte.percent) e ∙ eq-eqb (byte_at text i) byte.percent g)
 
--- ---- the size line: rows found from p on
-module _ (text : List ℕ) (s : Bool) (p : ℕ) (n : Scan) (rows : Found largest.whole text p n) where
-  pub size_no_digit : n.digits ≡ 0 → refused refusal.unreadable_market ≡ size_line s (drop p text)
-  unfolding size_line
-  size_no_digit e = rw (found_none largest.whole text p n rows e)
+    pub passing_stops : inside ≡ false → (byte_at text i ≡ byte.percent → ⊥) → take (length text - i) (drop i text) ≡ comments false text
+    passing_stops e g = from_on text i ∙ sym (here ∙ by_first false (ap (λ (t : Bool). t || eqb (byte_at text i) byte.percent) e ∙ ne_eqb (byte_at text i) byte.percent g))
 
-  module _ (some : n.digits ≡ 0 → ⊥) (b : ℕ) (at : b ≡ byte_at text (p + n.digits)) where
-    pub size_no_space : (b ≡ byte.space → ⊥) → refused refusal.unreadable_market ≡ size_line s (drop p text)
-    unfolding size_line
-    size_no_space h = rw (found_some largest.whole text p n rows some, found_next largest.whole text p n rows, ← at, ne_eqb b byte.space h)
+  pub passing_ends : length text ≤ i → take (length text - length text) (drop (length text) text) ≡ comments false text
+  unfolding comments
+  passing_ends h = from_on text (length text) ∙ drop_of_length-le text (let z : length text ≤ length text = omega arith in z) ∙ sym (here ∙ ap (comments inside) (drop_of_length-le text h))
 
-    goes_on : b ≡ byte.space → columns_line s (worth 0 (drop p text)) (drop (p + n.digits + 1) text) ≡ size_line s (drop p text)
-    unfolding size_line
-    goes_on h = rw (found_some largest.whole text p n rows some, found_next largest.whole text p n rows, ← at, eq-eqb b byte.space h, found_after largest.whole text p n rows)
-
-    pub size_goes_on : (r : Opening) → b ≡ byte.space → TellsHead text r (columns_line s (worth 0 (drop p text)) (drop (p + n.digits + 1) text)) → TellsHead text r (size_line s (drop p text))
-    size_goes_on r h t = subst (TellsHead text r) (goes_on h) t
-
-    pub space_inside : b ≡ byte.space → p + n.digits + 1 ≤ length text
-    space_inside h = let g : p + n.digits < length text = byte_inside text (p + n.digits) b at (omega arith) in omega arith
-
+-- ---- the size line: a number of rows, and a number of columns in what stands after it
 -- what stands for a number is above the largest n where the number is, and is it where it is not
 capped_large : (v w : ℕ) → Capped largest.whole v w → largest.n < v → largest.n < w
 capped_large v w c h = by (leb v largest.whole) refl
@@ -86,77 +66,78 @@ capped_large v w c h = by (leb v largest.whole) refl
     by true e = let z : v ≡ w = c.same (leb-true v largest.whole e) in omega arith
     by false e = let z : largest.whole < w = c.above (leb-false v largest.whole e) in omega arith
 
-capped_small : (v w : ℕ) → Capped largest.whole v w → v ≤ largest.n → v ≡ w
-capped_small v w c h = c.same (omega arith)
+-- digits that were found are digits
+pub found_digits : (text : List ℕ) (w : Whole) → Found largest.whole text w → AllDigits w.digits.now
+found_digits text w found = subst AllDigits (sym found.digits) (front_digits text)
 
--- ---- its columns, found from q on
-module _ (text : List ℕ) (s : Bool) (p : ℕ) (m : Scan) (rows : Found largest.whole text p m) (q : ℕ) (n : Scan) (columns : Found largest.whole text q n) where
-  pub columns_no_digit : n.digits ≡ 0 → refused refusal.unreadable_market ≡ columns_line s (worth 0 (drop p text)) (drop q text)
-  unfolding columns_line
-  columns_no_digit e = rw (found_none largest.whole text q n columns e)
+found_worth : (text : List ℕ) (w : Whole) → Found largest.whole text w → worth 0 w.digits.now ≡ worth 0 text
+found_worth text w found = ap (worth 0) found.digits ∙ front_worth text 0
 
-  module _ (some : n.digits ≡ 0 → ⊥) (b : ℕ) (at : b ≡ byte_at text (q + n.digits)) where
-    pub columns_no_newline : (b ≡ byte.newline → ⊥) → refused refusal.unreadable_market ≡ columns_line s (worth 0 (drop p text)) (drop q text)
-    unfolding columns_line
-    columns_no_newline h = rw (found_some largest.whole text q n columns some, found_next largest.whole text q n columns, ← at, ne_eqb b byte.newline h)
+module _ (s : Bool) (text : List ℕ) where
+  pub size_wrong : ends text byte.space ≡ false → refused refusal.unreadable_market ≡ size_line s text
+  unfolding size_line
+  size_wrong e = rw e
 
-    module _ (newline : b ≡ byte.newline) (t : Bool) (told : t ≡ eqb (number_at 10 text p m.digits) (number_at 10 text q n.digits)) where
-      by_sizes : (x : Bool) → t ≡ x → cond x (cond (ltb largest.n (worth 0 (drop p text))) (refused refusal.too_large) (value (opened (worth 0 (drop p text)) s (drop (q + n.digits + 1) text)))) (refused refusal.not_square) ≡ columns_line s (worth 0 (drop p text)) (drop q text)
-      unfolding columns_line squared
-      by_sizes x e =
-          let same : eqb (worth 0 (drop p text)) (worth 0 (drop q text)) ≡ x = (λ i. eqb (rows.spelled i) (columns.spelled i)) ∙ sym told ∙ e in
-          rw (found_some largest.whole text q n columns some, found_next largest.whole text q n columns, ← at, eq-eqb b byte.newline newline, same, found_after largest.whole text q n columns)
+  module _ (rest : List ℕ) (e : ends text byte.space ≡ true) (d : rest ≡ drop 1 (past text)) where
+    pub columns_wrong : ends rest byte.newline ≡ false → refused refusal.unreadable_market ≡ size_line s text
+    unfolding size_line columns_line
+    columns_wrong f = rw (e, ← d, f)
 
-      pub columns_differ : t ≡ false → refused refusal.not_square ≡ columns_line s (worth 0 (drop p text)) (drop q text)
-      columns_differ e = by_sizes false e
+    module _ (entries : List ℕ) (f : ends rest byte.newline ≡ true) (g : entries ≡ drop 1 (past rest)) where
+      squared_line : squared s (worth 0 text) (worth 0 rest) entries ≡ size_line s text
+      unfolding size_line columns_line
+      squared_line = rw (e, ← d, f, ← g)
 
-      pub columns_large : t ≡ true → largest.n < m.value → refused refusal.too_large ≡ columns_line s (worth 0 (drop p text)) (drop q text)
-      columns_large e h =
-          ap (λ (x : Bool). cond x (refused refusal.too_large) (value (opened (worth 0 (drop p text)) s (drop (q + n.digits + 1) text)))) (sym (lt-ltb largest.n (worth 0 (drop p text)) (capped_large m.value (worth 0 (drop p text)) rows.value h)))
-          ∙ by_sizes true e
+      module _ (rows columns : Whole) (in_rows : Found largest.whole text rows) (in_columns : Found largest.whole rest columns) (t : Bool) (told : t ≡ eqb (worth 0 rows.digits.now) (worth 0 columns.digits.now)) where
+        equal : eqb (worth 0 text) (worth 0 rest) ≡ t
+        equal = sym (told ∙ (λ i. eqb (found_worth text rows in_rows i) (found_worth rest columns in_columns i)))
 
-      pub columns_ready : t ≡ true → m.value ≤ largest.n → Opens text m.value s (q + n.digits + 1) (columns_line s (worth 0 (drop p text)) (drop q text))
-      columns_ready e h =
-          let same : m.value ≡ worth 0 (drop p text) = capped_small m.value (worth 0 (drop p text)) rows.value h in
-          let inside : q + n.digits < length text = byte_inside text (q + n.digits) b at (omega arith) in record {
-            said =
-                ap {B = Outcome Opened} (λ (x : ℕ). value (opened x s (drop (q + n.digits + 1) text))) same
-                ∙ ap (λ (x : Bool). cond x (refused refusal.too_large) (value (opened (worth 0 (drop p text)) s (drop (q + n.digits + 1) text)))) (sym (le-ltb largest.n (worth 0 (drop p text)) (omega arith)))
-                ∙ by_sizes true e;
-            few = h;
-            inside = omega arith;
-          }
+        pub sizes_differ : t ≡ false → refused refusal.not_square ≡ size_line s text
+        unfolding squared
+        sizes_differ h = rw (equal ∙ h) at squared_line
+
+        pub sizes_large : t ≡ true → largest.n < rows.value → refused refusal.too_large ≡ size_line s text
+        unfolding squared
+        sizes_large h l = rw (equal ∙ h, lt-ltb largest.n (worth 0 text) (capped_large rows.value (worth 0 text) in_rows.value l)) at squared_line
+
+        pub sizes_good : t ≡ true → rows.value ≤ largest.n → value (opened rows.value s entries) ≡ size_line s text
+        unfolding squared
+        sizes_good h l =
+            let same : rows.value ≡ worth 0 text = in_rows.value.same (omega arith) in
+            ap {B = Outcome Opened} (λ (x : ℕ). value (opened x s entries)) same ∙ (rw (equal ∙ h, le-ltb largest.n (worth 0 text) (omega arith)) at squared_line)
 
 -- ---- the text whole
--- a text that begins with a header is as long: the header's last byte is a newline
-headed_long : (s : Bool) (text : List ℕ) (last : ℕ) → starts_with (header s) text ≡ true → last < length (header s) → byte.newline ≡ byte_at (header s) last → last < length text
-unfolding starts_with
-headed_long s text last e h n =
-    let same : byte_at text last ≡ byte_at (header s) last = eqb-true (byte_at text last) (byte_at (header s) last) (every_at (λ i. eqb (byte_at text i) (byte_at (header s) i)) (length (header s)) last e h) in
-    byte_inside text last byte.newline (n ∙ sym same) (omega arith)
+-- what comparing a text's first bytes with a header finds
+header_found : (s : Bool) (text : List ℕ) → pointwise eqb (take (length (header s)) text) (header s) ≡ starts_with (header s) text
+header_found s text = by (pointwise eqb (take (length (header s)) text) (header s)) (starts_with (header s) text) refl refl
+  where
+    decided : Decides (pointwise eqb (take (length (header s)) text) (header s)) (take (length (header s)) text ≡ header s)
+    decided = slice_eq-Decides Decides-eqb (take (length (header s)) text) (header s) (pointwise eqb (take (length (header s)) text) (header s)) refl
 
-module _ (text : List ℕ) (t : Bool) (told : t ≡ starts_with (header false) text) where
-  pub general_long : t ≡ true → length (header false) ≤ length text
-  general_long e = let g = headed_long false text 43 (sym told ∙ e) (omega arith) refl in omega arith
-
-module _ (text : List ℕ) (t : Bool) (told : t ≡ starts_with (header true) text) where
-  pub symmetric_long : t ≡ true → length (header true) ≤ length text
-  symmetric_long e = let g = headed_long true text 45 (sym told ∙ e) (omega arith) refl in omega arith
+    by : (t u : Bool) → pointwise eqb (take (length (header s)) text) (header s) ≡ t → starts_with (header s) text ≡ u → pointwise eqb (take (length (header s)) text) (header s) ≡ starts_with (header s) text
+    by true u e g =
+        let begun : take (length (header s)) text ++ drop (length (header s)) text ≡ text = take-append-drop (length (header s)) text in
+        e ∙ sym (ap (starts_with (header s)) (sym begun ∙ ap (λ (l : List ℕ). l ++ drop (length (header s)) text) (decided.0 e)) ∙ starts_own (header s) (drop (length (header s)) text))
+    by false false e g = e ∙ sym g
+    by false true e g =
+        let same : take (length (header s)) text ≡ header s = ap (take (length (header s))) (header_split s text g) ∙ take-append_seam (header s) (drop (length (header s)) text) in
+        absurd (true≢false (sym (decided.1 same) ∙ e))
 
 pub head_long : (text : List ℕ) → largest.market < length text → refused refusal.unreadable_market ≡ head_of text
 unfolding head_of
 head_long text h = rw (lt-ltb largest.market (length text) h)
 
-module _ (text : List ℕ) (few : length text ≤ largest.market) (t : Bool) (told : t ≡ starts_with (header false) text) where
-  pub head_general : (r : Opening) (p : ℕ) → t ≡ true → AfterComments text (length (header false)) p → TellsHead text r (size_line false (drop p text)) → TellsHead text r (head_of text)
+module _ (text : List ℕ) (few : length text ≤ largest.market) where
+  module _ (o : Outcome Opened) (lines rest : List ℕ) (known : lines ≡ comments false rest) where
+    pub head_general : o ≡ size_line false lines → pointwise eqb (take (length (header false)) text) (header false) ≡ true → rest ≡ drop (length (header false)) text → o ≡ head_of text
+    unfolding head_of
+    head_general told e d = told ∙ ap (size_line false) (known ∙ ap (comments false) d) ∙ rw (le-ltb largest.market (length text) few, sym (header_found false text) ∙ e)
+
+    pub head_symmetric : o ≡ size_line true lines → pointwise eqb (take (length (header false)) text) (header false) ≡ false → pointwise eqb (take (length (header true)) text) (header true) ≡ true → rest ≡ drop (length (header true)) text → o ≡ head_of text
+    unfolding head_of
+    head_symmetric told n e d =
+        told ∙ ap (size_line true) (known ∙ ap (comments false) d) ∙ rw (le-ltb largest.market (length text) few, sym (header_found false text) ∙ n, sym (header_found true text) ∙ e)
+
+  pub head_neither : pointwise eqb (take (length (header false)) text) (header false) ≡ false → pointwise eqb (take (length (header true)) text) (header true) ≡ false → refused refusal.unreadable_market ≡ head_of text
   unfolding head_of
-  head_general r p e c known = subst (TellsHead text r) (ap (size_line false) c.said ∙ rw (le-ltb largest.market (length text) few, sym told ∙ e)) known
-
-  module _ (other : t ≡ false) (u : Bool) (told-too : u ≡ starts_with (header true) text) where
-    pub head_symmetric : (r : Opening) (p : ℕ) → u ≡ true → AfterComments text (length (header true)) p → TellsHead text r (size_line true (drop p text)) → TellsHead text r (head_of text)
-    unfolding head_of
-    head_symmetric r p e c known = subst (TellsHead text r) (ap (size_line true) c.said ∙ rw (le-ltb largest.market (length text) few, sym told ∙ other, sym told-too ∙ e)) known
-
-    pub head_neither : u ≡ false → refused refusal.unreadable_market ≡ head_of text
-    unfolding head_of
-    head_neither e = rw (le-ltb largest.market (length text) few, sym told ∙ other, sym told-too ∙ e)
+  head_neither n m = rw (le-ltb largest.market (length text) few, sym (header_found false text) ∙ n, sym (header_found true text) ∙ m)

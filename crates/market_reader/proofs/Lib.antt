@@ -1,4 +1,5 @@
 -- Laws that the proofs cite. Assumes nothing.
+mod EndedNumbers
 mod HeadLines
 mod EntryLines
 mod Placing

@@ -1,100 +1,67 @@
 // The entries: one whole number a line.
-ghost use Rattle.std.specs.Prelude.{◌≡◌, ◌≤◌, ◌<◌, length, drop};
+ghost use Rattle.std.specs.Prelude.{◌≡◌, ◌≤◌, length};
 ghost use Rattle.refusals.specs.Largest as largest;
+ghost use Rattle.algebra.specs.Outcome.{outcome, map_outcome};
 ghost use Rattle.market.specs.Format as Format;
 ghost use Rattle.market.specs.Entries.{magnitude_line, entry_of, numbers_of};
-ghost use Rattle.market_reader.specs.Told.{TellsEntry, fault_of, told_numbers};
+ghost use Rattle.market_reader.specs.Told.{line_in};
 
 use super::Entry;
-use texts::{read, whole};
+use refusals::Refusal;
+use texts::whole;
 
 // The float of a magnitude with a minus or without: -0 is +0.
+#[tactic(auto, unfolding(market::specs::Format::signed))]
 fn signed(minus: bool, v: u64) -> f64
     requires { v ≤ largest.whole }
     ensures { result ≡ Format.signed minus v }
 {
-    if !minus {
-        return v as f64;
+    if minus && 0 < v {
+        return -(v as f64);
     }
-    if v == 0 {
-        return v as f64;
-    }
-    -(v as f64)
+    v as f64
 }
 
-// The digits and the newline of an entry, from p on.
-fn magnitude_line(text: &[u8], minus: bool, p: usize) -> Entry
-    requires { p ≤ length text.now }
-    ensures { TellsEntry text.now result (magnitude_line minus (drop p text.now)) }
+// The digits and the newline of an entry.
+fn magnitude_line(minus: bool, text: &[u8]) -> Result<Entry<'_>, Refusal>
+    ensures { map_outcome line_in (outcome result) ≡ magnitude_line minus text.now }
 {
-    let s = whole::scan(text, p, refusals::LARGEST_WHOLE);
-    let value = s.value;
-    let digits = s.digits;
-    if refusals::LARGEST_WHOLE < value {
-        return Entry::Not {
-            number: refusals::UNREADABLE_MARKET,
-        };
+    let magnitude = whole::scan(text, refusals::LARGEST_WHOLE);
+    if refusals::LARGEST_WHOLE < magnitude.value {
+        return Err(Refusal::UnreadableMarket);
     }
-    if text.len() <= p + digits {
-        return Entry::Not {
-            number: refusals::WRONG_ENTRIES,
-        };
+    if magnitude.rest.is_empty() {
+        return Err(Refusal::WrongEntries);
     }
-    if digits == 0 {
-        return Entry::Not {
-            number: refusals::UNREADABLE_MARKET,
-        };
-    }
-    if text[p + digits] != b'\n' {
-        return Entry::Not {
-            number: refusals::UNREADABLE_MARKET,
-        };
-    }
-    Entry::Is {
-        x: signed(minus, value),
-        next: p + digits + 1,
+    let rest = magnitude.ended_by(b'\n').ok_or(Refusal::UnreadableMarket)?;
+    Ok(Entry {
+        number: signed(minus, magnitude.value),
+        rest,
+    })
+}
+
+// The entry that a text begins with.
+fn entry(text: &[u8]) -> Result<Entry<'_>, Refusal>
+    ensures { map_outcome line_in (outcome result) ≡ entry_of text.now }
+{
+    match text.strip_prefix(b"-") {
+        Some(rest) => magnitude_line(true, rest),
+        None => magnitude_line(false, text),
     }
 }
 
-// The entry that stands at p.
-fn entry(text: &[u8], p: usize) -> Entry
-    requires { p ≤ length text.now }
-    ensures { TellsEntry text.now result (entry_of (drop p text.now)) }
+// As many entries as `numbers` takes, to the end of the text.
+pub(crate) fn all(text: &[u8], numbers: &mut [f64]) -> Result<(), Refusal>
+    ensures { map_outcome (λ _. numbers.new) (outcome result) ≡ numbers_of (length numbers.old) text.now }
 {
-    if read::byte_at(text, p) == b'-' {
-        return magnitude_line(text, true, p + 1);
+    let mut rest = text;
+    for x in numbers.iter_mut() {
+        let e = entry(rest)?;
+        *x = e.number;
+        rest = e.rest;
     }
-    magnitude_line(text, false, p)
-}
-
-// The number of an entry's fault; 0 for one that has none.
-fn fault(e: Entry) -> u32
-    ensures { result ≡ fault_of e }
-{
-    match e {
-        Entry::Is { x: _, next: _ } => 0,
-        Entry::Not { number } => number,
+    if !rest.is_empty() {
+        return Err(Refusal::WrongEntries);
     }
-}
-
-// As many entries as `numbers` takes, from p on to the end of the text; 0, or the number of the first fault.
-pub(crate) fn all(text: &[u8], p: usize, numbers: &mut [f64]) -> u32
-    requires { p ≤ length text.now }
-    ensures { told_numbers result numbers.new ≡ numbers_of (length numbers.old) (drop p text.now) }
-{
-    let mut at = p;
-    let mut i = 0;
-    while i < numbers.len() {
-        let e = entry(text, at);
-        let Entry::Is { x, next } = e else {
-            return fault(e);
-        };
-        numbers[i] = x;
-        at = next;
-        i += 1;
-    }
-    if at < text.len() {
-        return refusals::WRONG_ENTRIES;
-    }
-    0
+    Ok(())
 }

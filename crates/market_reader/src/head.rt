@@ -1,115 +1,63 @@
 // What stands before the entries: the header, comment lines, the size line.
-ghost use Rattle.std.specs.Prelude.{◌≡◌, ◌||◌, ◌≤◌, eqb, length, drop};
-ghost use Rattle.refusals.specs.Largest as largest;
-ghost use Rattle.texts.specs.Bytes as byte;
-ghost use Rattle.texts.specs.Whole.{worth, Found};
-ghost use Rattle.market.specs.Head.{columns_line, size_line, head_of};
-ghost use Rattle.market_reader.specs.Told.{AfterComments, TellsHead};
+ghost use Rattle.std.specs.Prelude.{◌≡◌, false};
+ghost use Rattle.algebra.specs.Outcome.{outcome, map_outcome};
+ghost use Rattle.market.specs.Head as Head;
+ghost use Rattle.market.specs.Head.{head_of};
+ghost use Rattle.market_reader.specs.Told.{opened_in};
+ghost use Rattle.market_reader.specs.Kinds.{is_symmetric};
 
 use super::Opening;
-use texts::{Scan, read, whole};
+use super::shape::{Shape, Symmetry};
+use refusals::Refusal;
+use texts::whole;
 
-// The byte b is of a comment: inside one, or the % of one.
-fn of_comment(inside: bool, b: u8) -> bool
-    ensures { result ≡ (inside || eqb b byte.percent) }
-{
-    if inside {
-        return true;
-    }
-    b == b'%'
-}
-
-// The place after the comment lines from p on.
-fn comments(text: &[u8], p: usize) -> usize
-    requires { p ≤ length text.now }
-    ensures { AfterComments text.now p result }
+// The text after its comment lines.
+fn after_comments(text: &[u8]) -> &[u8]
+    ensures { result.now ≡ Head.comments false text.now }
 {
     let mut inside = false;
-    let mut i = p;
-    while i < text.len() {
-        let b = text[i];
-        if !of_comment(inside, b) {
-            return i;
+    for (i, b) in text.iter().enumerate() {
+        if !inside && *b != b'%' {
+            return &text[i..];
         }
-        inside = b != b'\n';
-        i += 1;
+        inside = *b != b'\n';
     }
-    i
+    &text[text.len()..]
 }
 
-// The number of columns from q on, the rows having been found at p.
-fn columns_line(text: &[u8], symmetric: bool, p: usize, rows: Scan, q: usize) -> Opening
-    requires q_in_bounds { (q ≤ length text.now) × (length text.now ≤ largest.market) }
-    requires found { Found largest.whole text.now p rows }
-    ensures { TellsHead text.now result (columns_line symmetric (worth 0 (drop p text.now)) (drop q text.now)) }
+// The size line, and the entries after it.
+fn size_line(symmetry: Symmetry, text: &[u8]) -> Result<Opening<'_>, Refusal>
+    ensures { map_outcome opened_in (outcome result) ≡ Head.size_line (is_symmetric symmetry) text.now }
 {
-    let columns = whole::scan(text, q, refusals::LARGEST_WHOLE);
-    let digits = columns.digits;
-    if digits == 0 {
-        return Opening::Refused {
-            number: refusals::UNREADABLE_MARKET,
-        };
-    }
-    if read::byte_at(text, q + digits) != b'\n' {
-        return Opening::Refused {
-            number: refusals::UNREADABLE_MARKET,
-        };
-    }
-    if !whole::same(text, p, rows.digits, q, digits) {
-        return Opening::Refused {
-            number: refusals::NOT_SQUARE,
-        };
+    let rows = whole::scan(text, refusals::LARGEST_WHOLE);
+    let rest = rows.ended_by(b' ').ok_or(Refusal::UnreadableMarket)?;
+    let columns = whole::scan(rest, refusals::LARGEST_WHOLE);
+    let entries = columns.ended_by(b'\n').ok_or(Refusal::UnreadableMarket)?;
+    if !whole::same(rows.digits, columns.digits) {
+        return Err(Refusal::NotSquare);
     }
     if (refusals::LARGEST_N as u64) < rows.value {
-        return Opening::Refused {
-            number: refusals::TOO_LARGE,
-        };
+        return Err(Refusal::TooLarge);
     }
-    Opening::Ready {
+    let shape = Shape {
         n: rows.value as usize,
-        symmetric,
-        start: q + digits + 1,
-    }
-}
-
-// The size line from p on.
-fn size_line(text: &[u8], symmetric: bool, p: usize) -> Opening
-    requires { (p ≤ length text.now) × (length text.now ≤ largest.market) }
-    ensures { TellsHead text.now result (size_line symmetric (drop p text.now)) }
-{
-    let rows = whole::scan(text, p, refusals::LARGEST_WHOLE);
-    let digits = rows.digits;
-    if digits == 0 {
-        return Opening::Refused {
-            number: refusals::UNREADABLE_MARKET,
-        };
-    }
-    if read::byte_at(text, p + digits) != b' ' {
-        return Opening::Refused {
-            number: refusals::UNREADABLE_MARKET,
-        };
-    }
-    columns_line(text, symmetric, p, rows, p + digits + 1)
+        symmetry,
+    };
+    Ok(Opening { shape, entries })
 }
 
 // What the text opens with.
-pub(crate) fn head(text: &[u8]) -> Opening
-    ensures { TellsHead text.now result (head_of text.now) }
+pub(crate) fn head(text: &[u8]) -> Result<Opening<'_>, Refusal>
+    ensures { map_outcome opened_in (outcome result) ≡ head_of text.now }
 {
     if refusals::LARGEST_MARKET < text.len() {
-        return Opening::Refused {
-            number: refusals::UNREADABLE_MARKET,
-        };
+        return Err(Refusal::UnreadableMarket);
     }
-    let general = b"%%MatrixMarket matrix array integer general\n";
-    if read::starts_with(general, text) {
-        return size_line(text, false, comments(text, general.len()));
+    if let Some(rest) = text.strip_prefix(b"%%MatrixMarket matrix array integer general\n") {
+        return size_line(Symmetry::General, after_comments(rest));
     }
-    let symmetric = b"%%MatrixMarket matrix array integer symmetric\n";
-    if read::starts_with(symmetric, text) {
-        return size_line(text, true, comments(text, symmetric.len()));
+    if let Some(rest) = text.strip_prefix(b"%%MatrixMarket matrix array integer symmetric\n") {
+        return size_line(Symmetry::Symmetric, after_comments(rest));
     }
-    Opening::Refused {
-        number: refusals::UNREADABLE_MARKET,
-    }
+    Err(Refusal::UnreadableMarket)
 }

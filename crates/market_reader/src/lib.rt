@@ -5,74 +5,59 @@
 mod entries;
 mod head;
 mod places;
+mod shape;
 
 ghost use Rattle.std.specs.Prelude.{◌≡◌, ◌<◌, ◌≤◌};
 ghost use Rattle.refusals.specs.Largest as largest;
-ghost use Rattle.market.specs.Answers.{market_outcome, answered};
+ghost use Rattle.algebra.specs.Outcome.{outcome};
+ghost use Rattle.market.specs.Answers.{answered};
 ghost use Rattle.market.specs.Head.{size_of};
 ghost use Rattle.market.specs.Read.{read_left};
 
-use market::MarketAnswer;
+use refusals::Refusal;
+use shape::Shape;
 
-// What stands before the entries: the size, whether the text is symmetric, and where the entries start.
+// What stands before the entries, and they themselves, which are still to be read.
 #[derive(Clone, Copy)]
-pub(crate) enum Opening {
-    Ready {
-        n: usize,
-        symmetric: bool,
-        start: usize,
-    },
-    Refused {
-        number: u32,
-    },
+pub(crate) struct Opening<'a> {
+    pub shape: Shape,
+    pub entries: &'a [u8],
 }
 
-// An entry and the place after its line, or the number of its fault.
+// An entry and the text after its line.
 #[derive(Clone, Copy)]
-pub(crate) enum Entry {
-    Is { x: f64, next: usize },
-    Not { number: u32 },
+pub(crate) struct Entry<'a> {
+    pub number: f64,
+    pub rest: &'a [u8],
 }
 
 // The size of the matrix in a text.
-pub fn size(text: &[u8]) -> MarketAnswer
-    ensures { market_outcome result ≡ size_of text.now }
+pub fn size(text: &[u8]) -> Result<usize, Refusal>
+    ensures { outcome result ≡ size_of text.now }
 {
-    match head::head(text) {
-        Opening::Ready {
-            n,
-            symmetric: _,
-            start: _,
-        } => MarketAnswer::Done { count: n },
-        Opening::Refused { number } => MarketAnswer::Refused { number },
-    }
+    let opening = head::head(text)?;
+    Ok(opening.shape.n)
 }
 
 // The matrix in a text, its records `width` floats wide.
-fn read_wide(text: &[u8], width: usize, out: &mut [f64]) -> MarketAnswer
+// Kept: `read` and `read_hyperdual`, which docs/PROMISES.md names, in one line each: a const parameter would ask its callers for a `requires` on the width.
+fn read_wide(text: &[u8], width: usize, out: &mut [f64]) -> Result<usize, Refusal>
     requires { (0 < width) × (width ≤ largest.width) }
-    ensures { answered (market_outcome result) out.new ≡ read_left width text.now out.old }
+    ensures { answered (outcome result) out.new ≡ read_left width text.now out.old }
 {
-    match head::head(text) {
-        Opening::Ready {
-            n,
-            symmetric,
-            start,
-        } => places::body(text, n, symmetric, start, width, out),
-        Opening::Refused { number } => MarketAnswer::Refused { number },
-    }
+    places::body(head::head(text)?, width, out)
 }
 
 // The matrix in a text into `Dual` records, row by row: 2n² floats, the derivative parts zero. A refusal writes nothing.
-pub fn read(text: &[u8], out: &mut [f64]) -> MarketAnswer
-    ensures { answered (market_outcome result) out.new ≡ read_left 2 text.now out.old }
+pub fn read(text: &[u8], out: &mut [f64]) -> Result<usize, Refusal>
+    ensures { answered (outcome result) out.new ≡ read_left 2 text.now out.old }
 {
     read_wide(text, 2, out)
 }
 
 // The same into `HyperDual` records: 4n² floats.
-pub fn read_hyperdual(text: &[u8], out: &mut [f64]) -> MarketAnswer
-    ensures { answered (market_outcome result) out.new ≡ read_left 4 text.now out.old }
+pub fn read_hyperdual(text: &[u8], out: &mut [f64]) -> Result<usize, Refusal>
+    ensures { answered (outcome result) out.new ≡ read_left 4 text.now out.old }
 {
     read_wide(text, 4, out)
 }

@@ -4,16 +4,17 @@ use borrow.Fn.Kinds.{In, Dens, ended_of}
 use contract.Lifetimes.{Lfts}
 use denote.Triple.Clauses.{at_exit}
 use Rattle.real.proofs.Only.{Only}
-use Rattle.market.specs.Answers.{market_outcome, Left, answered}
-use Rattle.market.proofs.OneAnswer.{market_one}
+use Rattle.algebra.specs.Outcome.{outcome}
+use Rattle.algebra.proofs.Outcomes.{outcome_one}
+use Rattle.market.specs.Answers.{Left, answered}
 use Rattle.market_writer.proofs.write as write
 use Rattle.market_writer.proofs.write_hyperdual as hyperdual
 
 -- over any record: an equation of the answer and the lent bytes
-write_only_by : (pre : In 2 write.Kinds.ps) (left : (κs : Lfts 2) → Dens κs write.Kinds.ps → Left ℕ) → Only 2 write.Kinds.ps write.Kinds.r pre (λ κs a x s. answered (market_outcome x) s.1.1.0.now ≡ left κs a)
+write_only_by : (pre : In 2 write.Kinds.ps) (left : (κs : Lfts 2) → Dens κs write.Kinds.ps → Left ℕ) → Only 2 write.Kinds.ps write.Kinds.r pre (λ κs a x s. answered (outcome x) s.1.1.0.now ≡ left κs a)
 write_only_by pre left κs a x y v w h p q =
     let e = p ∙ sym q in (
-      market_one x y (ap (λ (l : Left ℕ). l.answer) e),
+      outcome_one x y (ap (λ (l : Left ℕ). l.answer) e),
       λ i. at_exit (ended_of 2 write.Kinds.ps write.Kinds.r) κs a (v.0, (v.1.0, (ap (λ (l : Left ℕ). l.buffer) e i, tt))),
     )
 

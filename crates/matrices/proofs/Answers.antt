@@ -10,7 +10,11 @@ use lib.Ieee.{Float}
 use borrow.Author.Tests.{le-ltb, ltb-false, eqb-true, eq-eqb, ne_eqb}
 use Rattle.real.specs.Operations as float
 use Rattle.refusals.specs.Largest as largest
+use Rattle.std.specs.Prelude.{Result, Ok, Err}
 use Rattle.refusals.specs.Number as refusal
+use Rattle.refusals.specs.Refused.{number, answer_number}
+use Rattle.refusals.specs.declared.Refusal.{Refusal}
+use Rattle.refusals.proofs.Numbers.{number_positive}
 use Rattle.algebra.specs.Algebra.{Algebra, RealParts, reals}
 use Rattle.algebra.specs.Flat.{Layout, Lawful, Agrees, real_parts, decode, encode}
 use Rattle.algebra.specs.Outcome.{Outcome, value, refused, map_outcome}
@@ -26,6 +30,18 @@ use Rattle.matrices.specs.Walk.{lengths_refusal}
 use Rattle.matrices.proofs.Parity.{Ordered, swaps_in, lu_ordered, lu_few}
 use Rattle.orders.proofs.Permutation.{both, is_order-order, order-is_order}
 use Rattle.matrices.proofs.Slopes.{map_run, lu_map, solve_map, inverse_map, determinant_map}
+
+-- ---- what the number of a Result tells
+
+module _ {S : Type 0} (t : Result S Refusal) (k : ℕ) (told : answer_number t ≡ k) where
+  pub done_zero : (u : S) → t ≡ Ok u → k ≡ 0
+  done_zero u e = sym told ∙ ap answer_number e
+
+  pub refused_number : (e : Refusal) → t ≡ Err e → number e ≡ k
+  refused_number e p = sym (ap answer_number p) ∙ told
+
+pub refused_not_done : (e : Refusal) → number e ≡ 0 → ⊥
+refused_not_done e z = omega (arith, number_positive e)
 
 -- ---- what a number of 0 tells
 

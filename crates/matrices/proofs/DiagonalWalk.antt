@@ -8,7 +8,10 @@ use lib.ListN.{length, get_or}
 use lib.Ieee.{Float}
 use borrow.Author.Tests.{le-ltb, eq-eqb, ne_eqb}
 use Rattle.refusals.specs.Largest as largest
+use Rattle.std.specs.Prelude.{Result, Ok, Err}
 use Rattle.refusals.specs.Number as refusal
+use Rattle.refusals.specs.Refused.{number, answer_number}
+use Rattle.refusals.specs.declared.Refusal.{Refusal}
 use Rattle.algebra.specs.Algebra.{Algebra, zero_of, one_of}
 use Rattle.algebra.specs.Flat.{Layout, decode}
 use Rattle.algebra.specs.Loop.{upto}
@@ -22,7 +25,7 @@ use Rattle.orders.specs.Order.{is_order}
 use Rattle.orders.specs.Walk.{marks_none, marks_with, is_full}
 use Rattle.matrices.specs.Walk.{walked_refusal}
 use Rattle.orders.specs.declared.Marks.{Marks}
-use Rattle.matrices.proofs.Answers.{determinant_done, determinant_refused}
+use Rattle.matrices.proofs.Answers.{done_zero, refused_number, refused_not_done, determinant_done, determinant_refused}
 use Rattle.orders.proofs.Odd.{odd_mod}
 use Rattle.orders.proofs.Walk.{Marking, marking, mark_turn, mark_stop, mark_full, mark_odd}
 
@@ -75,17 +78,18 @@ module _ {R : Type 0} {A : Algebra R} {L : Layout R} (Q : Laws A L) where
   walk_stop n a o s m x i w h q long past =
       determinant_refused A L n a o s 7 (sym (right n a o s q long ∙ ap (λ (t : Bool). cond t (swaps_refusal o s) 7) (mark_stop n o m i w.marks (omega arith) past))) (λ z. omega arith)
 
-  module _ (n : ℕ) (a : List Float) (o : List ℕ) (s : ℕ) (m : Marks) (x : R) (i k : ℕ) (w : Walking n a o m x i) (h : n ≤ i) (q : Square L.width n a) (long : length o ≡ n) (e : k ≡ walked_refusal n m s) where
-    counted : k ≡ determinant_refusal L.width n (length a) o s
+  module _ (n : ℕ) (a : List Float) (o : List ℕ) (s : ℕ) (m : Marks) (x : R) (i : ℕ) (t : Result (Unit {0}) Refusal)
+      (w : Walking n a o m x i) (h : n ≤ i) (q : Square L.width n a) (long : length o ≡ n) (told : answer_number t ≡ walked_refusal n m s) where
+    counted : answer_number t ≡ determinant_refusal L.width n (length a) o s
     counted =
-        e ∙ ap (λ (b : Bool). cond (is_full n m.word) (count_refusal b s) 7) (mark_odd n o m i w.marks (omega arith))
+        told ∙ ap (λ (b : Bool). cond (is_full n m.word) (count_refusal b s) 7) (mark_odd n o m i w.marks (omega arith))
         ∙ ap (λ (b : Bool). cond b (swaps_refusal o s) 7) (mark_full n o m i w.marks (omega arith) long) ∙ sym (right n a o s q long)
 
-    pub walk_refused : (k ≡ 0 → ⊥) → refused k ≡ determinant_left A L n a o s
-    walk_refused ne = determinant_refused A L n a o s k counted ne
+    pub walk_refused : (e : Refusal) → t ≡ Err e → refused (number e) ≡ determinant_left A L n a o s
+    walk_refused e p = determinant_refused A L n a o s (number e) (refused_number t _ counted e p) (refused_not_done e)
 
-    pub walk_end : (y : R) → k ≡ 0 → y ≡ signed A s x → value y ≡ determinant_left A L n a o s
+    pub walk_end : (u : Unit {0}) (y : R) → t ≡ Ok u → y ≡ signed A s x → value y ≡ determinant_left A L n a o s
     unfolding determinant_of
-    walk_end y z ey =
+    walk_end u y p ey =
         ap (λ (v : R). value v) (ey ∙ ap (signed A s) (multiply_end n a x i w.product h))
-        ∙ determinant_done A L n a o s (sym counted ∙ z)
+        ∙ determinant_done A L n a o s (done_zero t _ counted u p)

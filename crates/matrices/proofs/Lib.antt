@@ -20,6 +20,7 @@ pub mod Answers
 mod PreviousContents
 mod AfterLu
 -- the code over a record, function by function: its loops' invariants, a turn of each, and what a function's calls amount to
+pub mod Held
 pub mod Turns
 pub mod RowsReduced
 pub mod ColumnsRun

@@ -8,6 +8,7 @@ use native.Mathlib.Omega.{arith}
 use lib.ListN.{length, get_or, set, length-set}
 use lib.Seq.{get_or-set_same, get_or-set_other}
 use lib.Ieee.{Float}
+use Rattle.std.specs.Prelude.{Result, Ok, Err}
 use Rattle.real.specs.Operations as float
 use Rattle.algebra.specs.Algebra.{Algebra, RealParts, reals, zero_of}
 use Rattle.algebra.specs.Flat.{Layout, Lawful, Agrees, record_at, record_count, decode}
@@ -16,8 +17,7 @@ use Rattle.algebra.proofs.Loop.{upto_reach}
 use Rattle.matrices.specs.Matrix.{Square, exchange, exchange_rows}
 use Rattle.matrices.specs.Lu.{going, bring_pivot, bring_pivot_flat, pivot_of, reduce_run, column}
 use Rattle.matrices.specs.RunAfter.{run_after}
-use Rattle.matrices.specs.declared.AfterColumn.{AfterColumn}
-use Rattle.matrices.specs.declared.AfterColumn.TheVariants.{Singular, Going}
+use Rattle.matrices.specs.declared.NoPivot.{NoPivot}
 use Rattle.matrices.proofs.Lu.{pivot_row}
 use Rattle.matrices.proofs.Places.{row_there, row_inside, flat_row}
 use Rattle.matrices.proofs.Slopes.{map_run, bring_pivot-carry, pivot_map}
@@ -179,12 +179,12 @@ module _ {R : Type 0} (L : Layout R) (W : Lawful L) (n : ℕ) (l : List Float) (
       (λ ne. let b = pivot_row A n (decode L l) i h in decode-exchange_rows (zero_of A) i (pivot_of A n (decode L l) i).row h b.1 (λ z. ne (sym z))))
 
   -- a column of LU, from what the code has brought up
-  pub column_by : (A : Algebra R) → RealParts A → Agrees A L → (i : ℕ) (p : List ℕ) (swaps : ℕ) → i < n → (r : AfterColumn) (l' : List Float) (p' : List ℕ)
+  pub column_by : (A : Algebra R) → RealParts A → Agrees A L → (i : ℕ) (p : List ℕ) (swaps : ℕ) → i < n → (r : Result ℕ NoPivot) (l' : List Float) (p' : List ℕ)
       → run_after r l' p' ≡ bring_pivot_flat L.width n i l p swaps
       → column A n i (going (decode L l) p swaps) ≡ reduce_run A n i (run_after r (decode L l') p')
   unfolding column
   column_by A K G i p swaps h r l' p' e = ap (reduce_run A n i) (sym (decode-bring_pivot A K G i p swaps h) ∙ ap (map_run (decode L)) (sym e) ∙ after r)
     where
-      after : (t : AfterColumn) → map_run (decode L) (run_after t l' p') ≡ run_after t (decode L l') p'
-      after (Singular c) = refl
-      after (Going s) = refl
+      after : (t : Result ℕ NoPivot) → map_run (decode L) (run_after t l' p') ≡ run_after t (decode L l') p'
+      after (Err e) = refl
+      after (Ok s) = refl

@@ -2,33 +2,34 @@
 use Prim.Native.Nat.{ℕ, ◌+◌, ◌-◌, ◌*◌, ◌≤◌, ◌<◌}
 use mathlib.Core.Path.{◌≡◌, refl, ap, sym, ◌∙◌}
 use mathlib.Core.List.{List}
+use native.Mathlib.Omega.{arith}
 use lib.ListN.{length, get_or, set}
 use lib.Ieee.{Float}
 use Rattle.algebra.specs.Algebra.{Algebra, zero_of}
 use Rattle.algebra.specs.Flat.{Layout, decode}
 use Rattle.algebra.proofs.Loop.{upto_turn, upto_end}
-use Rattle.algebra.proofs.Cells.{held}
 use Rattle.algebra.proofs.Laws.{Laws}
 use Rattle.matrices.specs.Matrix.{cell}
 use Rattle.matrices.specs.Solve.{Strided, less, less_row, less_product, forward_row_from, forward_from, back_row, back, substitute_from}
+use Rattle.matrices.proofs.Held.{strided_held}
 use Rattle.matrices.proofs.Inner.{forward_by, back_row-by}
-use Rattle.matrices.proofs.Turns.{Running}
+use Rattle.matrices.proofs.Turns.{Running, run_turn}
 
 module _ {R : Type 0} {A : Algebra R} {L : Layout R} (Q : Laws A L) where
-  pub forwarded : (n stride base i : ℕ) (a x x' : List Float) (u r : R) → Strided L.width n stride base x → (i * stride + base) * L.width + L.width ≤ length x
+  pub forwarded : (n stride base i : ℕ) (a x x' : List Float) (u r : R) → Strided L.width n stride base x → i < n
       → u ≡ get_or (decode L x) (i * stride + base) (zero_of A) → r ≡ less_row A n (decode L a) stride base i (decode L x) 0 i u
       → decode L x' ≡ set (decode L x) (i * stride + base) r → decode L x' ≡ forward_row_from A n (decode L a) stride base i (decode L x)
   forwarded n stride base i a x x' u r s h eu er e =
       e ∙ ap (set (decode L x) (i * stride + base)) (er ∙ ap (less_row A n (decode L a) stride base i (decode L x) 0 i) eu)
-      ∙ sym (forward_by A n (decode L a) stride base s.some (decode L x) i (held Q x (i * stride + base) h))
+      ∙ sym (forward_by A n (decode L a) stride base s.some (decode L x) i (strided_held Q n stride base i x s h))
 
-  pub backed : (n stride base i : ℕ) (a x x' : List Float) (u r v y : R) → Strided L.width n stride base x → (i * stride + base) * L.width + L.width ≤ length x
+  pub backed : (n stride base i : ℕ) (a x x' : List Float) (u r v y : R) → Strided L.width n stride base x → i < n
       → u ≡ get_or (decode L x) (i * stride + base) (zero_of A) → r ≡ less_row A n (decode L a) stride base i (decode L x) (i + 1) n u → v ≡ get_or (decode L a) (i * n + i) (zero_of A) → y ≡ A.div r v
       → decode L x' ≡ set (decode L x) (i * stride + base) y → decode L x' ≡ back_row A n (decode L a) stride base i (decode L x)
   unfolding cell
   backed n stride base i a x x' u r v y s h eu er ev ey e =
       e ∙ ap (set (decode L x) (i * stride + base)) (ey ∙ (λ t. A.div ((er ∙ ap (less_row A n (decode L a) stride base i (decode L x) (i + 1) n) eu) t) (ev t)))
-      ∙ sym (back_row-by A n (decode L a) stride base s.some (decode L x) i (held Q x (i * stride + base) h))
+      ∙ sym (back_row-by A n (decode L a) stride base s.some (decode L x) i (strided_held Q n stride base i x s h))
 
   -- the products of a row, taken from r
   abbrev pub Lessening : ℕ → List Float → List Float → ℕ → ℕ → ℕ → ℕ → ℕ → R → R → ℕ → Type 0
@@ -60,6 +61,17 @@ module _ {R : Type 0} {A : Algebra R} {L : Layout R} (Q : Laws A L) where
   pub backing : (n : ℕ) (a x : List Float) (stride base : ℕ) → Backing n a x stride base x 0
   unfolding back
   backing n a x stride base = record { size = refl; rest = refl }
+
+  -- j elements are left, the first of them: element j - 1 is made next
+  pub back_start : (n : ℕ) (a x : List Float) (stride base : ℕ) → Backing n a x stride base x (n - n)
+  back_start n a x stride base = let none : n - n ≡ 0 = omega arith in rw none (backing n a x stride base)
+
+  pub back_turn : (n : ℕ) (a x₀ : List Float) (stride base : ℕ) (x x' : List Float) (j : ℕ) → Backing n a x₀ stride base x (n - j) → 0 < j → j ≤ n → length x' ≡ length x
+      → decode L x' ≡ back_row A n (decode L a) stride base (j - 1) (decode L x) → Backing n a x₀ stride base x' (n - (j - 1))
+  back_turn n a x₀ stride base x x' j r p h s e =
+      let row : n - 1 - (n - j) ≡ j - 1 = omega arith in
+      let next : n - (j - 1) ≡ n - j + 1 = omega arith in
+      rw next (run_turn Q _ n x₀ x x' (n - j) _ r (omega arith) s (e ∙ ap (λ (k : ℕ). back_row A n (decode L a) stride base k (decode L x)) (sym row)))
 
   -- forward, then back
   pub substituted : (n stride base : ℕ) (a x x' x'' : List Float) → decode L x' ≡ forward_from A n (decode L a) stride base (decode L x) → decode L x'' ≡ back A n (decode L a) stride base (decode L x')

@@ -7,68 +7,73 @@ pub mod order;
 pub mod refusal;
 pub mod rows;
 
-ghost use Rattle.std.specs.Prelude.{◌≡◌};
+ghost use Rattle.std.specs.Prelude.{◌≡◌, Err};
 ghost use Rattle.algebra.specs.Outcome.{number_of};
-ghost use Rattle.matrices.specs.Answers.{lu_outcome, lu_column, solve_outcome};
+ghost use Rattle.matrices.specs.Answers.{lu_outcome, lu_column};
+ghost use Rattle.matrices.specs.declared.LuRefusal.TheVariants as lu;
+
+use refusals::Refusal;
 
 // The best row so far for a column, with the magnitude of its real part.
-#[derive(Clone, Copy)]
+#[derive(Clone, Copy, Debug)]
 pub struct Pivot {
     pub magnitude: f64,
     pub row: usize,
 }
 
-// Where a column of LU leaves the run.
-#[derive(Clone, Copy)]
-pub enum AfterColumn {
+// No pivot of the column exceeds zero.
+#[derive(Clone, Copy, Debug, PartialEq, Eq, Hash)]
+pub struct NoPivot {
+    pub column: usize,
+}
+
+// What LU is refused for; where it is done it answers the number of swaps.
+#[derive(Clone, Copy, Debug, PartialEq, Eq, Hash)]
+pub enum LuRefusal {
+    Refused(Refusal),
     Singular { column: usize },
-    Going { swaps: usize },
 }
 
-// What LU answers: the number of swaps, or a refusal by its number with the column beside it (0 unless the number is 6).
-#[derive(Clone, Copy)]
-pub enum LuAnswer {
-    Done { swaps: usize },
-    Refused { number: u32, column: usize },
+impl From<Refusal> for LuRefusal {
+    ghost from_gives = { λ refusal made. made ≡ lu.Refused refusal };
+
+    fn from(refusal: Refusal) -> LuRefusal {
+        LuRefusal::Refused(refusal)
+    }
 }
 
-impl LuAnswer {
-    // Document 01's number, 0 where the call is done.
+impl LuRefusal {
+    // Document 01's number.
     pub fn number(self) -> u32
-        ensures { result ≡ number_of (lu_outcome self) }
+        ensures { result ≡ number_of (lu_outcome (Err self)) }
     {
         match self {
-            LuAnswer::Done { swaps: _ } => 0,
-            LuAnswer::Refused { number, column: _ } => number,
+            LuRefusal::Refused(refusal) => refusal.number(),
+            LuRefusal::Singular { column: _ } => refusals::SINGULAR,
         }
     }
 
     // The column beside the number, 0 unless the number is 6.
     pub fn column(self) -> usize
-        ensures { result ≡ lu_column self }
+        ensures { result ≡ lu_column (Err self) }
     {
         match self {
-            LuAnswer::Done { swaps: _ } => 0,
-            LuAnswer::Refused { number: _, column } => column,
+            LuRefusal::Refused(_) => 0,
+            LuRefusal::Singular { column } => column,
         }
     }
 }
 
-// What solve and inverse answer.
-#[derive(Clone, Copy)]
-pub enum SolveAnswer {
-    Done,
-    Refused { number: u32 },
+// Document 01's number of what LU answers, 0 where it is done.
+pub fn lu_number(answer: Result<usize, LuRefusal>) -> u32
+    ensures { result ≡ number_of (lu_outcome answer) }
+{
+    answer.map_or_else(LuRefusal::number, |_| 0)
 }
 
-impl SolveAnswer {
-    // Document 01's number, 0 where the call is done.
-    pub fn number(self) -> u32
-        ensures { result ≡ number_of (solve_outcome self) }
-    {
-        match self {
-            SolveAnswer::Done => 0,
-            SolveAnswer::Refused { number } => number,
-        }
-    }
+// The column beside that number, 0 unless the number is 6.
+pub fn lu_column(answer: Result<usize, LuRefusal>) -> usize
+    ensures { result ≡ lu_column answer }
+{
+    answer.map_or_else(LuRefusal::column, |_| 0)
 }

@@ -1,127 +1,115 @@
-// The refusals of the four entries, by number, in document 01's order; 0 where none applies. A record has w floats.
+// The refusals of the four entries, in document 01's order. A record has w floats.
 ghost use Rattle.std.specs.Prelude.{◌≡◌, ◌≤◌, length};
 ghost use Rattle.refusals.specs.Largest as largest;
+ghost use Rattle.refusals.specs.Refused.{answer_number};
 ghost use Rattle.matrices.specs.Entries.{lu_refusal, order_refusal, count_refusal, solve_refusal, inverse_refusal};
 ghost use Rattle.matrices.specs.Walk.{lengths_refusal, walked_refusal};
 
 use orders::Marks;
+use refusals::Refusal;
 
 // Of LU, by the lengths that are lent.
-pub fn lu(w: usize, n: usize, a: usize, factors: usize, order: usize) -> u32
+pub fn lu(w: usize, n: usize, a: usize, factors: usize, order: usize) -> Result<(), Refusal>
     requires { w ≤ largest.width }
-    ensures { result ≡ lu_refusal w n a factors order }
+    ensures { answer_number result ≡ lu_refusal w n a factors order }
 {
-    if refusals::LARGEST_N < n {
-        return refusals::TOO_LARGE;
+    if n > refusals::LARGEST_N {
+        return Err(Refusal::TooLarge);
     }
     let full = n * n * w;
-    if a != full {
-        return refusals::WRONG_LENGTH;
+    if a != full || factors != full || order != n {
+        return Err(Refusal::WrongLength);
     }
-    if factors != full {
-        return refusals::WRONG_LENGTH;
-    }
-    if order != n {
-        return refusals::WRONG_LENGTH;
-    }
-    0
+    Ok(())
 }
 
 // Of an order as long as it must be.
-fn not_an_order(n: usize, order: &[usize]) -> u32
+fn not_an_order(n: usize, order: &[usize]) -> Result<(), Refusal>
     requires n_le_n { n ≤ largest.n }
     requires order_len { length order.now ≡ n }
-    ensures { result ≡ order_refusal n order.now }
+    ensures { answer_number result ≡ order_refusal n order.now }
 {
-    if orders::is_order(n, order) {
-        0
+    if orders::is_order(order) {
+        Ok(())
     } else {
-        refusals::NOT_AN_ORDER
+        Err(Refusal::NotAnOrder)
     }
 }
 
 // Of solve.
-pub fn solve(w: usize, n: usize, factors: usize, order: &[usize], b: usize, x: usize) -> u32
+pub fn solve(
+    w: usize,
+    n: usize,
+    factors: usize,
+    order: &[usize],
+    b: usize,
+    x: usize,
+) -> Result<(), Refusal>
     requires { w ≤ largest.width }
-    ensures { result ≡ solve_refusal w n factors order.now b x }
+    ensures { answer_number result ≡ solve_refusal w n factors order.now b x }
 {
-    if refusals::LARGEST_N < n {
-        return refusals::TOO_LARGE;
+    if n > refusals::LARGEST_N {
+        return Err(Refusal::TooLarge);
     }
-    if factors != n * n * w {
-        return refusals::WRONG_LENGTH;
-    }
-    if order.len() != n {
-        return refusals::WRONG_LENGTH;
-    }
-    if b != n * w {
-        return refusals::WRONG_LENGTH;
-    }
-    if x != n * w {
-        return refusals::WRONG_LENGTH;
+    let row = n * w;
+    if factors != n * row || order.len() != n || b != row || x != row {
+        return Err(Refusal::WrongLength);
     }
     not_an_order(n, order)
 }
 
 // Of inverse.
-pub fn inverse(w: usize, n: usize, factors: usize, order: &[usize], out: usize) -> u32
+pub fn inverse(
+    w: usize,
+    n: usize,
+    factors: usize,
+    order: &[usize],
+    out: usize,
+) -> Result<(), Refusal>
     requires { w ≤ largest.width }
-    ensures { result ≡ inverse_refusal w n factors order.now out }
+    ensures { answer_number result ≡ inverse_refusal w n factors order.now out }
 {
-    if refusals::LARGEST_N < n {
-        return refusals::TOO_LARGE;
+    if n > refusals::LARGEST_N {
+        return Err(Refusal::TooLarge);
     }
     let full = n * n * w;
-    if factors != full {
-        return refusals::WRONG_LENGTH;
-    }
-    if order.len() != n {
-        return refusals::WRONG_LENGTH;
-    }
-    if out != full {
-        return refusals::WRONG_LENGTH;
+    if factors != full || order.len() != n || out != full {
+        return Err(Refusal::WrongLength);
     }
     not_an_order(n, order)
 }
 
 // Of determinant, by the lengths that are lent; 7 and 8 are found on its walk over the order.
-pub fn determinant(w: usize, n: usize, factors: usize, order: usize) -> u32
+pub fn determinant(w: usize, n: usize, factors: usize, order: usize) -> Result<(), Refusal>
     requires { w ≤ largest.width }
-    ensures { result ≡ lengths_refusal w n factors order }
+    ensures { answer_number result ≡ lengths_refusal w n factors order }
 {
-    if refusals::LARGEST_N < n {
-        return refusals::TOO_LARGE;
+    if n > refusals::LARGEST_N {
+        return Err(Refusal::TooLarge);
     }
-    if factors != n * n * w {
-        return refusals::WRONG_LENGTH;
+    if factors != n * n * w || order != n {
+        return Err(Refusal::WrongLength);
     }
-    if order != n {
-        return refusals::WRONG_LENGTH;
-    }
-    0
+    Ok(())
 }
 
 // Of a swap count beside an order whose parity is `odd`.
-fn swap_count(odd: bool, swaps: usize) -> u32
-    ensures { result ≡ count_refusal odd swaps }
+fn swap_count(odd: bool, swaps: usize) -> Result<(), Refusal>
+    ensures { answer_number result ≡ count_refusal odd swaps }
 {
-    if refusals::LARGEST_SWAPS < swaps {
-        return refusals::WRONG_SWAPS;
+    if swaps > refusals::LARGEST_SWAPS || (swaps % 2 == 1) != odd {
+        return Err(Refusal::WrongSwaps);
     }
-    if orders::differs(swaps % 2 == 1, odd) {
-        return refusals::WRONG_SWAPS;
-    }
-    0
+    Ok(())
 }
 
 // Of an order that was walked over to its end, and of the swap count beside it.
-pub fn walked(n: usize, m: Marks, swaps: usize) -> u32
+pub fn walked(n: usize, marks: Marks, swaps: usize) -> Result<(), Refusal>
     requires { n ≤ largest.n }
-    ensures { result ≡ walked_refusal n m swaps }
+    ensures { answer_number result ≡ walked_refusal n marks swaps }
 {
-    if orders::is_full(n, m.word) {
-        swap_count(m.inversions % 2 == 1, swaps)
-    } else {
-        refusals::NOT_AN_ORDER
+    if !marks.is_full(n) {
+        return Err(Refusal::NotAnOrder);
     }
+    swap_count(marks.inversions % 2 == 1, swaps)
 }

@@ -7,7 +7,7 @@ ghost use Rattle.matrices.specs.Matrix.{Square, exchange_rows};
 ghost use Rattle.matrices.specs.Lu.{better, pivot_of, bring_pivot_flat};
 ghost use Rattle.matrices.specs.RunAfter.{run_after, swaps_of};
 
-use super::{AfterColumn, Pivot, order};
+use super::{NoPivot, Pivot, order};
 
 // Row k with the real part x looked at.
 fn better_row(x: f64, k: usize, b: Pivot) -> Pivot
@@ -48,9 +48,7 @@ fn exchange_rows(k: usize, a: &mut [f64], p: usize, q: usize)
     let x = p * k;
     let y = q * k;
     for c in 0..k {
-        let v = a[x + c];
-        a[x + c] = a[y + c];
-        a[y + c] = v;
+        a.swap(x + c, y + c);
     }
 }
 
@@ -62,7 +60,7 @@ pub fn bring_pivot(
     order: &mut [usize],
     i: usize,
     swaps: usize,
-) -> AfterColumn
+) -> Result<usize, NoPivot>
     requires square { Square w n a.old }
     requires order_len { length order.old ≡ n }
     requires i_lt_n { i < n }
@@ -70,16 +68,14 @@ pub fn bring_pivot(
     ensures result_bound { swaps_of result ≤ i + 1 }
     ensures order_after { run_after result a.new order.new ≡ bring_pivot_flat w n i a.old order.old swaps }
 {
-    let b = find_pivot(w, n, a, i);
-    let magnitude = b.magnitude;
-    let row = b.row;
-    if magnitude == 0.0 {
-        return AfterColumn::Singular { column: i };
+    let pivot = find_pivot(w, n, a, i);
+    if pivot.magnitude == 0.0 {
+        return Err(NoPivot { column: i });
     }
-    if row == i {
-        return AfterColumn::Going { swaps };
+    if pivot.row == i {
+        return Ok(swaps);
     }
-    exchange_rows(n * w, a, i, row);
-    order::exchange(order, i, row);
-    AfterColumn::Going { swaps: swaps + 1 }
+    exchange_rows(n * w, a, i, pivot.row);
+    order::exchange(order, i, pivot.row);
+    Ok(swaps + 1)
 }

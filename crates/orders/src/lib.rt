@@ -5,8 +5,8 @@
 
 ghost use Rattle.std.specs.Prelude.{◌≡◌, ◌<◌, ◌≤◌, length};
 ghost use Rattle.refusals.specs.Largest as largest;
-ghost use Rattle.orders.specs.Order.{is_order, differ};
-ghost use Rattle.orders.specs.Walk.{marks_with, is_full};
+ghost use Rattle.orders.specs.Order.{is_order};
+ghost use Rattle.orders.specs.Walk.{marks_none, marks_with, is_full};
 
 // What has come of an order of numbers below 32, on a walk over it. Bit x of `word`: whether an odd number of what has come is above x; bit 32 + x: whether x
 // has come an odd number of times. Bit 0 of `inversions`: whether they are odd in number (an inversion: an entry with a lesser one after it); its other bits mean nothing.
@@ -16,49 +16,46 @@ pub struct Marks {
     pub inversions: u64,
 }
 
-// One or the other, not both.
-pub fn differs(t: bool, b: bool) -> bool
-    ensures { result ≡ differ t b }
-{
-    if t { !b } else { b }
-}
+impl Marks {
+    // Nothing has come.
+    pub fn none() -> Marks
+        ensures { result ≡ marks_none }
+    {
+        Marks {
+            word: 0,
+            inversions: 0,
+        }
+    }
 
-// x has come: with it as many more inversions as numbers above it have come. In the word, it changes its own bit 32 + x and those of the numbers below it.
-pub fn mark(m: Marks, x: usize) -> Marks
-    requires { x < largest.n }
-    ensures { result ≡ marks_with m x }
-{
-    let word = m.word;
-    Marks {
-        word: word ^ ((0x1_0000_0001 << x) - 1),
-        inversions: m.inversions ^ (word >> x),
+    // x has come: with it as many more inversions as numbers above it have come. In the word, it changes its own bit 32 + x and those of the numbers below it.
+    pub fn mark(&mut self, x: usize)
+        requires { x < largest.n }
+        ensures { self.new ≡ marks_with self.old x }
+    {
+        self.inversions ^= self.word >> x;
+        self.word ^= (0x1_0000_0001 << x) - 1;
+    }
+
+    // The numbers below n have come, each an odd number of times, and no others.
+    pub fn is_full(self, n: usize) -> bool
+        requires { n ≤ largest.n }
+        ensures { result ≡ is_full n self.word }
+    {
+        self.word >> 32 == (1 << n) - 1
     }
 }
 
-// The numbers below n have come, each an odd number of times, and no others.
-pub fn is_full(n: usize, word: u64) -> bool
-    requires { n ≤ largest.n }
-    ensures { result ≡ is_full n word }
+// Every number is below the order's length, and no two are equal.
+pub fn is_order(order: &[usize]) -> bool
+    requires { length order.now ≤ largest.n }
+    ensures { result ≡ is_order (length order.now) order.now }
 {
-    word >> 32 == (1 << n) - 1
-}
-
-// Every number is below n, and no two are equal.
-pub fn is_order(n: usize, order: &[usize]) -> bool
-    requires n_le_n { n ≤ largest.n }
-    requires order_len { length order.now ≡ n }
-    ensures { result ≡ is_order n order.now }
-{
-    let mut m = Marks {
-        word: 0,
-        inversions: 0,
-    };
-    for i in 0..n {
-        let x = order[i];
-        if x >= n {
+    let mut marks = Marks::none();
+    for &x in order {
+        if x >= order.len() {
             return false;
         }
-        m = mark(m, x);
+        marks.mark(x);
     }
-    is_full(n, m.word)
+    marks.is_full(order.len())
 }

@@ -70,31 +70,6 @@ pub fn answer_number<T: Copy>(answer: Result<T, Refusal>) -> u32
 // The number of LU's refusal of a matrix in which no pivot exceeds zero.
 pub const SINGULAR: u32 = 6;
 
-// Until every crate takes the enum.
-pub const TOO_LARGE: u32 = 1;
-
-pub const WRONG_LENGTH: u32 = 2;
-
-pub const EMPTY: u32 = 3;
-
-pub const LIMIT_TOO_LARGE: u32 = 4;
-
-pub const EXPONENT_TOO_LARGE: u32 = 5;
-
-pub const NOT_AN_ORDER: u32 = 7;
-
-pub const WRONG_SWAPS: u32 = 8;
-
-pub const UNREADABLE: u32 = 9;
-
-pub const UNREADABLE_MARKET: u32 = 10;
-
-pub const NOT_SQUARE: u32 = 11;
-
-pub const WRONG_ENTRIES: u32 = 12;
-
-pub const UNWRITABLE: u32 = 20;
-
 // The largest n of a matrix.
 pub const LARGEST_N: usize = 32;
 

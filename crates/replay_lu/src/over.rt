@@ -66,7 +66,7 @@ fn same_dual(words: &[u64], answer: DualAnswer) -> bool
     ensures { result ≡ same_outcome words.now (map_outcome (dual.dual_layout).parts (dual.outcome answer)) }
 {
     match answer {
-        DualAnswer::Value(x) => replay_matrices::same_floats(words, &[x.re, x.eps]),
+        DualAnswer::Value(x) => replay::same::same_words(words, &[x.re, x.eps]),
         DualAnswer::Refused(_) => false,
     }
 }
@@ -76,7 +76,7 @@ fn same_hyperdual(words: &[u64], answer: HyperDualAnswer) -> bool
 {
     match answer {
         HyperDualAnswer::Value(x) => {
-            replay_matrices::same_floats(words, &[x.re, x.eps1, x.eps2, x.eps1eps2])
+            replay::same::same_words(words, &[x.re, x.eps1, x.eps2, x.eps1eps2])
         }
         HyperDualAnswer::Refused(_) => false,
     }

@@ -4,10 +4,13 @@ use Rattle.algebra.specs.Outcome.{Outcome, value, refused, number_of}
 use Rattle.replay.specs.Same.{same_numbers}
 use Rattle.replay_matrices.specs.Cases.{same_floats}
 use Rattle.replay_market.specs.declared.compare.Recorded.{Recorded}
+use Rattle.replay_market.specs.declared.over.Width.{Width}
+use Rattle.replay_market.specs.declared.over.Width.TheVariants.{Dual, HyperDual}
 
--- the floats of the record that a width stands for: two for `Dual`, else `HyperDual`'s four
-abbrev pub width_of : ℕ → ℕ
-width_of width = cond (eqb width 2) 2 4
+-- the floats of a record
+abbrev pub width_of : Width → ℕ
+width_of Dual = 2
+width_of HyperDual = 4
 
 -- what every lent float has for a word before a call: that of 1.5
 abbrev pub word_before : ℕ
@@ -21,6 +24,10 @@ byte_before = 0xff
 abbrev pub count_in : Outcome ℕ → ℕ
 count_in (value count) = count
 count_in (refused number) = 0
+
+-- the number and what stands beside it
+abbrev pub recorded_of : Outcome ℕ → Recorded
+recorded_of answer = record { number = number_of answer; count = count_in answer }
 
 -- the recorded number, and what is recorded beside it
 unfoldable pub same_answer : Recorded → Outcome ℕ → Bool

@@ -1,103 +1,70 @@
 // What a call answers and leaves, compared with what a file has.
 ghost use Rattle.std.specs.Prelude.{◌≡◌};
 ghost use Rattle.market.specs.Answers.{market_outcome};
-ghost use Rattle.replay_market.specs.Cases.{count_in, same_answer, same_size, full_floats, full_numbers, same_page, same_read, same_write};
+ghost use Rattle.replay_market.specs.Cases.{recorded_of, same_answer, same_size, same_page, same_read, same_write};
 
 use market::MarketAnswer;
-use replay::same;
+use replay::same::{all_have, same_words};
 
 // The word of every lent float before a call, 1.5, and every lent byte: no matrix that is read has the one, no text that is written the other.
 pub(crate) const WORD_BEFORE: u64 = 0x3ff8_0000_0000_0000;
 
 pub(crate) const BYTE_BEFORE: u8 = 0xff;
 
-// A recorded answer: its number, and n or the length of the text beside it, 0 where the call is refused.
-#[derive(Clone, Copy)]
+// An answer as a file has it: its number, and n or the length of the text beside it, 0 where the call is refused.
+#[derive(Clone, Copy, PartialEq, Eq)]
 pub(crate) struct Recorded {
     pub number: u64,
     pub count: u64,
 }
 
-// What stands beside an answer's number: 0 where the call is refused.
-fn count(answer: MarketAnswer) -> u64
-    ensures { result ≡ count_in (market_outcome answer) }
-{
-    match answer {
-        MarketAnswer::Done { count } => count as u64,
-        MarketAnswer::Refused { number: _ } => 0,
+impl From<MarketAnswer> for Recorded {
+    ghost from_gives = { λ answer r. r ≡ recorded_of (market_outcome answer) };
+
+    fn from(answer: MarketAnswer) -> Recorded {
+        match answer {
+            MarketAnswer::Done { count } => Recorded {
+                number: 0,
+                count: count as u64,
+            },
+            MarketAnswer::Refused { number } => Recorded {
+                number: number as u64,
+                count: 0,
+            },
+        }
     }
 }
 
 // Whether an answer is the recorded one.
+#[tactic(auto, unfolding(crate::specs::Cases::same_answer))]
 fn same_answer(wanted: Recorded, answer: MarketAnswer) -> bool
     ensures { result ≡ same_answer wanted (market_outcome answer) }
 {
-    let number = answer.number() as u64;
-    if wanted.number != number {
-        return false;
-    }
-    wanted.count == count(answer)
+    wanted == Recorded::from(answer)
 }
 
 // Whether the size of a text has the recorded number and, where the reader was done, the recorded n.
+#[tactic(auto, unfolding(crate::specs::Cases::same_size))]
 fn same_size(wanted: Recorded, wanted_size: u64, size: MarketAnswer) -> bool
     ensures { result ≡ same_size wanted wanted_size (market_outcome size) }
 {
-    let number = size.number() as u64;
-    if wanted_size != number {
-        return false;
-    }
-    if wanted.number != 0 {
-        return true;
-    }
-    wanted.count == count(size)
-}
-
-// Whether every float has the word.
-fn full_floats(word: u64, floats: &[f64]) -> bool
-    ensures { result ≡ full_floats word floats.now }
-{
-    let mut i = 0usize;
-    while i < floats.len() {
-        if word != real::word_of_float(floats[i]) {
-            return false;
-        }
-        i += 1;
-    }
-    true
-}
-
-// Whether every byte is the one.
-fn full_bytes(byte: u8, bytes: &[u8]) -> bool
-    ensures { result ≡ full_numbers byte bytes.now }
-{
-    let mut i = 0usize;
-    while i < bytes.len() {
-        if byte != bytes[i] {
-            return false;
-        }
-        i += 1;
-    }
-    true
+    let got = Recorded::from(size);
+    wanted_size == got.number && (wanted.number != 0 || wanted.count == got.count)
 }
 
 // Whether the bytes are the text, and zeros after it.
+#[tactic(auto, unfolding(crate::specs::Cases::same_page))]
 fn same_page(text: &[u8], bytes: &[u8]) -> bool
     ensures { result ≡ same_page text.now bytes.now }
 {
-    let end = text.len();
-    if bytes.len() < end {
+    let Some((start, rest)) = bytes.split_at_checked(text.len()) else {
         return false;
-    }
-    let start = &bytes[..end];
-    let rest = &bytes[end..];
-    if same::same_text(text, start) {
-        return full_bytes(0, rest);
-    }
-    false
+    };
+    text == start && all_have(0, rest)
 }
 
 // Whether the reader and the size of its text answer what was recorded, and the lent floats are the recorded ones, or as they were where a refusal is recorded.
+#[tactic(auto, unfolding(crate::specs::Cases::same_read))]
 pub(crate) fn same_read(
     wanted: Recorded,
     wanted_size: u64,
@@ -108,27 +75,27 @@ pub(crate) fn same_read(
 ) -> bool
     ensures { result ≡ same_read wanted wanted_size words.now (market_outcome answer) (market_outcome size) floats.now }
 {
-    if !same_answer(wanted, answer) {
+    if !same_answer(wanted, answer) || !same_size(wanted, wanted_size, size) {
         return false;
     }
-    if !same_size(wanted, wanted_size, size) {
-        return false;
+    if wanted.number == 0 {
+        same_words(words, floats)
+    } else {
+        all_have(WORD_BEFORE, floats)
     }
-    if wanted.number != 0 {
-        return full_floats(WORD_BEFORE, floats);
-    }
-    replay_matrices::same_floats(words, floats)
 }
 
 // Whether the writer answers what was recorded, and the lent bytes are the recorded text with zeros after it, or as they were where a refusal is recorded.
+#[tactic(auto, unfolding(crate::specs::Cases::same_write))]
 pub(crate) fn same_write(wanted: Recorded, text: &[u8], answer: MarketAnswer, bytes: &[u8]) -> bool
     ensures { result ≡ same_write wanted text.now (market_outcome answer) bytes.now }
 {
     if !same_answer(wanted, answer) {
         return false;
     }
-    if wanted.number != 0 {
-        return full_bytes(BYTE_BEFORE, bytes);
+    if wanted.number == 0 {
+        same_page(text, bytes)
+    } else {
+        all_have(u64::from(BYTE_BEFORE), bytes)
     }
-    same_page(text, bytes)
 }

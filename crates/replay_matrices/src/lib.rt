@@ -3,9 +3,7 @@
 
 #![tactic(auto)]
 
-ghost use Rattle.std.specs.Prelude.{◌≡◌, List, ◌*◌, ◌≤◌, length, get_or};
-ghost use Rattle.std.specs.Float.{binary64};
-ghost use Rattle.std.specs.Float.Ieee.{of_bits};
+ghost use Rattle.std.specs.Prelude.{◌≡◌, ◌*◌, ◌≤◌, length, get_or};
 ghost use Rattle.refusals.specs.Largest as largest;
 ghost use Rattle.algebra.specs.Flat.{tabulate};
 ghost use Rattle.algebra.specs.Outcome.{map_outcome};

@@ -9,13 +9,12 @@ use lib.Dec.{ltb}
 use lib.Pow.{pow-add, pow_pos}
 use borrow.Author.Tests.{ltb-true, ltb-false}
 use Rattle.real.proofs.Rounded.{stays, moves}
-use Rattle.rootsteps.specs.declared.Request.TheVariants.{Steps}
-use Rattle.rootsteps.specs.Request.{request_of}
+use Rattle.rootsteps.specs.Request.{steps, request_of}
 use Rattle.rootsteps.specs.Start.{top_of, shift_of, odd_of, significand_of, exponent_of, found_of}
 use Rattle.rootsteps.specs.Table.{nearest_of}
 use Rattle.rootsteps.proofs.Asking.{askable}
 use Rattle.rootsteps.proofs.Scaling.{scales}
-use Rattle.rootsteps.proofs.Steps.{last_ended}
+use Rattle.rootsteps.proofs.AllSteps.{last_ended}
 
 -- what the lines tell of the root of n: its square and what is left are n, one more would be too much, and the root is at most half a unit from the nearest
 pub record Told (n root left nearest : ℕ) : Type 0 where
@@ -44,10 +43,10 @@ rounds n root left positive sum whole = by (ltb root left) refl
     by true e = let near = moves n root left sum whole (ltb-true root left e) in record { sum = sum; whole = whole; below = near.0; above = near.1 }
     by false e = let near = stays n root left sum positive (ltb-false root left e) in record { sum = sum; whole = whole; below = near.0; above = near.1 }
 
-pub lines_true : (text : List ℕ) (number bits : ℕ) → request_of text ≡ Steps number bits
+pub lines_true : (text : List ℕ) (number bits : ℕ) → request_of text ≡ steps number bits
     → Told (number * 2 ^ exponent_of number bits) ((found_of number bits).twice / 2) (found_of number bits).rest (nearest_of ((found_of number bits).twice / 2) (found_of number bits).rest)
 lines_true text number bits e =
-    let asks = askable text (request_of text) number bits refl e in
+    let asks = askable text (request_of text) (record { number = number; bits = bits }) refl e in
     let a = significand_of number bits in
     let f = found_of number bits in
     let last = last_ended a bits (scales number bits asks) in

@@ -4,7 +4,7 @@ mod Asking
 -- where the steps begin
 mod Scaling
 -- the steps
-mod Steps
+mod AllSteps
 mod Rows
 -- writing
 mod Lines

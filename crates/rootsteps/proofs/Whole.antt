@@ -11,15 +11,14 @@ use lib.Seq.{take_all, length-take-le}
 use borrow.Author.Tests.{ltb-true, ltb-false}
 use Rattle.real.specs.declared.root.Found.{Found}
 use Rattle.real.specs.Bits.{trial_of, fits_next, next_of}
+use Rattle.std.specs.Prelude.{Option, Some, None}
 use Rattle.texts.specs.declared.Number.{Number}
-use Rattle.texts.specs.declared.Number.TheVariants.{Is, Not}
 use Rattle.texts.specs.Bytes.{newline, space}
 use Rattle.texts.specs.Digits.{byte_at}
 use Rattle.texts.specs.Numbers.{number_from}
 use Rattle.texts.proofs.Numbers.{number_end}
 use Rattle.texts.proofs.Decimals.{length_decimal}
-use Rattle.rootsteps.specs.declared.Request.{Request}
-use Rattle.rootsteps.specs.declared.Request.TheVariants.{Steps, Unreadable}
+use Rattle.rootsteps.specs.declared.Steps.{Steps}
 use Rattle.rootsteps.specs.Words.{opening, bar, times, plus, equals, times_power, nearest_word, over_power}
 use Rattle.rootsteps.specs.Request.{number_digits, most_bits, asked, with_bits, bits_from, with_number, request_of}
 use Rattle.rootsteps.specs.Table.{labelled, row_end, leading_row, verdict, row_of, rows_of, sum_line, nearest_of, nearest_line, table_of}
@@ -32,22 +31,22 @@ most_bytes = 4096
 
 -- ---- a text gives what its first 4,096 bytes give: one that long asks nothing
 module _ (text : List ℕ) (long : most_bytes ≤ length text) where
-  bits_refused : (number p : ℕ) (m : Number) → p ≤ number_digits + 1 → m ≡ number_from number_digits text p → with_bits text number m ≡ Unreadable
-  bits_refused number p (Is bits end) h read =
-      let early : end ≤ p + number_digits = number_end number_digits text p bits end (sym read) in
-      ap (λ (t : Bool). cond t (asked number bits) Unreadable) (sym (ends_later text end (λ e. omega arith) (λ e. omega arith)))
-  bits_refused number p Not h read = refl
+  bits_refused : (number p : ℕ) (m : Option Number) → p ≤ number_digits + 1 → m ≡ number_from number_digits text p → with_bits text number m ≡ None
+  bits_refused number p (Some bits) h read =
+      let early : bits.end ≤ p + number_digits = number_end number_digits text p bits (sym read) in
+      ap (λ (t : Bool). cond t (asked number bits.value) None) (sym (ends_later text bits.end (λ e. omega arith) (λ e. omega arith)))
+  bits_refused number p None h read = refl
 
-  number_refused : (m : Number) → m ≡ number_from number_digits text 0 → with_number text m ≡ Unreadable
+  number_refused : (m : Option Number) → m ≡ number_from number_digits text 0 → with_number text m ≡ None
   unfolding bits_from
-  number_refused (Is number end) read = by (eqb (byte_at text end) space)
+  number_refused (Some number) read = by (eqb (byte_at text number.end) space)
     where
-      by : (t : Bool) → cond t (with_bits text number (number_from number_digits text (end + 1))) Unreadable ≡ Unreadable
-      by true = bits_refused number (end + 1) (number_from number_digits text (end + 1)) (omega (arith, number_end number_digits text 0 number end (sym read))) refl
+      by : (t : Bool) → cond t (with_bits text number.value (number_from number_digits text (number.end + 1))) None ≡ None
+      by true = bits_refused number.value (number.end + 1) (number_from number_digits text (number.end + 1)) (omega (arith, number_end number_digits text 0 number (sym read))) refl
       by false = refl
-  number_refused Not read = refl
+  number_refused None read = refl
 
-  long_refused : request_of text ≡ Unreadable
+  long_refused : request_of text ≡ None
   unfolding request_of
   long_refused = number_refused (number_from number_digits text 0) refl
 
@@ -109,9 +108,9 @@ unfolding table_of
 length_table number bits h =
     le_trans (joined (leading_row _ _) (rows_of (bits - 1) _) (sum_line _ _ _ _) (nearest_line _ _ _) 160 (123 * (bits - 1)) 116 56 (length_leading _ _) (length_rows (bits - 1) _) (length_sum _ _ _ _) (length_nearest _ _ _)) (omega arith)
 
-output_most : (text : List ℕ) (r : Request) → r ≡ request_of text → length (output_for r) ≤ most_bytes
-output_most text (Steps number bits) e = length_table number bits (askable text (Steps number bits) number bits e refl).few
-output_most text Unreadable e = omega arith
+output_most : (text : List ℕ) (r : Option Steps) → r ≡ request_of text → length (output_for r) ≤ most_bytes
+output_most text (Some asked) e = length_table asked.number asked.bits (askable text (Some asked) asked e refl).few
+output_most text None e = omega arith
 
 pub written_whole : (text : List ℕ) → length (output_of text) ≤ most_bytes
 unfolding output_of

@@ -3,8 +3,8 @@ ghost use Rattle.std.specs.Prelude.{◌≡◌, ◌+◌, ◌^◌, ◌≤◌, ◌<
 ghost use Rattle.rootsteps.specs.Request.{number_digits, ends_at, bits_from, request_of};
 ghost use Rattle.rootsteps.specs.Request.{asked as Request·asked};
 
-use super::Request;
-use texts::Number;
+use super::Steps;
+use texts::read;
 
 // The most digits of a number.
 const NUMBER_DIGITS: usize = 9;
@@ -15,22 +15,22 @@ const FEWEST_BITS: u64 = 2;
 const MOST_BITS: u64 = 26;
 
 // The steps, where the two numbers can ask for them.
-fn asked(number: u64, bits: u64) -> Request
+fn asked(number: u64, bits: u64) -> Option<Steps>
     ensures { result ≡ Request·asked number bits }
 {
     if bits < FEWEST_BITS {
-        return Request::Unreadable;
+        return None;
     }
     if MOST_BITS < bits {
-        return Request::Unreadable;
+        return None;
     }
     if number == 0 {
-        return Request::Unreadable;
+        return None;
     }
     if 1 << bits <= number {
-        return Request::Unreadable;
+        return None;
     }
-    Request::Steps { number, bits }
+    Some(Steps { number, bits })
 }
 
 // Nothing stands from p on, or a newline and nothing after it.
@@ -48,28 +48,24 @@ fn ends(text: &[u8], p: usize) -> bool
 }
 
 // The bits from p on, after the number.
-fn bits_from(text: &[u8], number: usize, p: usize) -> Request
+fn bits_from(text: &[u8], number: usize, p: usize) -> Option<Steps>
     requires { p ≤ number_digits + 1 }
     ensures { result ≡ bits_from text.now number p }
 {
-    let Number::Is { value, end } = texts::read::number(text, p, NUMBER_DIGITS) else {
-        return Request::Unreadable;
-    };
-    if !ends(text, end) {
-        return Request::Unreadable;
+    let bits = read::number(text, p, NUMBER_DIGITS)?;
+    if !ends(text, bits.end) {
+        return None;
     }
-    asked(number as u64, value as u64)
+    asked(number as u64, bits.value as u64)
 }
 
 // What a text asks.
-pub(crate) fn request(text: &[u8]) -> Request
+pub(crate) fn request(text: &[u8]) -> Option<Steps>
     ensures { result ≡ request_of text.now }
 {
-    let Number::Is { value, end } = texts::read::number(text, 0, NUMBER_DIGITS) else {
-        return Request::Unreadable;
-    };
-    if texts::read::byte_at(text, end) != b' ' {
-        return Request::Unreadable;
+    let number = read::number(text, 0, NUMBER_DIGITS)?;
+    if read::byte_at(text, number.end) != b' ' {
+        return None;
     }
-    bits_from(text, value, end + 1)
+    bits_from(text, number.value, number.end + 1)
 }

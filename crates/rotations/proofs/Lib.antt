@@ -1,8 +1,8 @@
 -- Laws of a rotation that belong to no one function.
 -- what carries a rotation from one record to another
 pub mod Carry
--- buffers that keep their lengths
-pub mod Kept
+-- the records that lent floats hold
+pub mod Held
 -- what is chosen for an entry, and the tangent
 mod Chosen
 -- the rotation, and an entry by its choices

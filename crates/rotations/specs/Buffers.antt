@@ -1,25 +1,34 @@
--- The records that the lent floats of a sweep hold. Definitions only.
-use Rattle.std.specs.Prelude.{ℕ, ◌*◌, ◌≡◌, List, length, Float}
+-- The records that the lent floats of a sweep hold, and that they stay the same floats. Definitions only.
+use Rattle.std.specs.Prelude.{ℕ, ◌≡◌, List}
 use Rattle.dual.specs.declared.Dual.{Dual}
 use Rattle.dual.specs.Rules.{dual_records}
-use Rattle.matrices.specs.Matrix.{Square}
 use Rattle.rotations.specs.declared.Angle as code
+use Rattle.rotations.specs.declared.matrix.Matrix.{Matrix}
+use Rattle.rotations.specs.declared.work.Work as lent
 use Rattle.rotations.specs.Rotation.{Angle, angle, Work, work}
 
--- the four buffers of a sweep are as long as n by n and n records ask
-pub record Sized (n : ℕ) (a v d zw : List Float) : Type 0 where
-  pub matrix : Square 2 n a
-  pub vectors : Square 2 n v
-  pub values : length d ≡ n * 2
-  pub gains : length zw ≡ n * 2
+-- the records of a matrix
+abbrev pub entries : Matrix → List Dual
+entries m = dual_records m.floats.now
+
+-- what a sweep works on
+abbrev pub work_of : lent.Work → Work Dual
+work_of w = work (entries w.a) (entries w.v) (dual_records w.d.now) (dual_records w.zw.now) w.rotations
+
+-- as many records, in the same lent floats
+pub record SameMatrix (x y : Matrix) : Type 0 where
+  pub n : y.n ≡ x.n
+  pub floats : y.floats.ghost_name ≡ x.floats.ghost_name
+
+pub record SameWork (x y : lent.Work) : Type 0 where
+  pub a : SameMatrix x.a y.a
+  pub v : SameMatrix x.v y.v
+  pub d : y.d.ghost_name ≡ x.d.ghost_name
+  pub zw : y.zw.ghost_name ≡ x.zw.ghost_name
 
 -- more rotations than any run makes: a count below it does not wrap
 abbrev pub many_rotations : ℕ
 many_rotations = 2000000
-
--- what a sweep works on, in four buffers
-abbrev pub work_of : List Float → List Float → List Float → List Float → ℕ → Work Dual
-work_of a v d zw rotations = work (dual_records a) (dual_records v) (dual_records d) (dual_records zw) rotations
 
 -- the parts of an angle
 abbrev pub angle_parts : code.Angle → Angle Dual

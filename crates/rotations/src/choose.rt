@@ -6,6 +6,7 @@ ghost use Rattle.rotations.specs.Buffers.{angle_parts};
 
 use super::{Angle, Choice};
 use dual::Dual;
+use records::Record;
 
 // gapq: |x| * 10
 fn gap(x: Dual) -> Dual
@@ -15,28 +16,25 @@ fn gap(x: Dual) -> Dual
 }
 
 // gapq + |d| == |d|
+#[tactic(auto, unfolding(crate::specs::Rotation::absorbed))]
 fn is_absorbed(gapq: Dual, d: Dual) -> bool
     ensures { result ≡ absorbed dual_algebra gapq d }
 {
     let size = d.abs();
-    gapq.add(size).eq(size)
+    gapq.add(size) == size
 }
 
 // The entry x is small beside dp and dq, and the sweep is late enough to clear it.
+#[tactic(auto, using(crate::proofs::Chosen::cleared_both, crate::proofs::Chosen::cleared_first, crate::proofs::Chosen::cleared_early))]
 fn is_cleared(it_num: usize, x: Dual, dp: Dual, dq: Dual) -> bool
     ensures { result ≡ (ltb 4 it_num && (absorbed dual_algebra (gap_of dual_algebra x) dp && absorbed dual_algebra (gap_of dual_algebra x) dq)) }
 {
     let gapq = gap(x);
-    if 4 < it_num {
-        if is_absorbed(gapq, dp) {
-            return is_absorbed(gapq, dq);
-        }
-        return false;
-    }
-    false
+    4 < it_num && is_absorbed(gapq, dp) && is_absorbed(gapq, dq)
 }
 
 // What is done with the entry x between dp and dq.
+#[tactic(auto, using(crate::proofs::Chosen::choose_clear, crate::proofs::Chosen::choose_rotate, crate::proofs::Chosen::choose_keep))]
 pub(crate) fn choose(thresh: f64, it_num: usize, x: Dual, dp: Dual, dq: Dual) -> Choice
     ensures { result ≡ choice_of dual_algebra thresh it_num x dp dq }
 {
@@ -50,6 +48,7 @@ pub(crate) fn choose(thresh: f64, it_num: usize, x: Dual, dp: Dual, dq: Dual) ->
 }
 
 // sqrt(x * x + 1)
+#[tactic(auto, unfolding(crate::specs::Rotation::hypotenuse_of))]
 fn hypotenuse(x: Dual) -> Dual
     ensures { result ≡ hypotenuse_of dual_algebra x }
 {
@@ -57,6 +56,7 @@ fn hypotenuse(x: Dual) -> Dual
 }
 
 // The tangent from theta.
+#[tactic(auto, using(crate::proofs::Chosen::tangent_negated, crate::proofs::Chosen::tangent_kept))]
 fn tangent(theta: Dual) -> Dual
     ensures { result ≡ tangent_of dual_algebra theta }
 {
@@ -65,17 +65,19 @@ fn tangent(theta: Dual) -> Dual
 }
 
 // The tangent for the entry x and the difference h of the diagonal entries.
+#[tactic(auto, using(crate::proofs::Chosen::tangent_small, crate::proofs::Chosen::tangent_large))]
 fn rotation_tangent(x: Dual, h: Dual) -> Dual
     ensures { result ≡ rotation_tangent dual_algebra x h }
 {
     let size = h.abs();
-    if size.add(gap(x)).eq(size) {
+    if size.add(gap(x)) == size {
         return x.div(h);
     }
     tangent(h.mul_float(0.5).div(x))
 }
 
 // The angle from the tangent.
+#[tactic(auto, unfolding(crate::specs::Rotation::angle_by))]
 fn angle_by(x: Dual, t: Dual) -> Angle
     ensures { angle_parts result ≡ angle_by dual_algebra x t }
 {

@@ -3,15 +3,16 @@
 
 #![tactic(auto)]
 
-pub mod cells;
 mod choose;
-pub mod pair;
+pub mod matrix;
+mod pair;
 mod turn;
+pub mod work;
 
 use dual::Dual;
 
 // What is done with an entry: it is left, set to zero, or rotated away.
-#[derive(Clone, Copy)]
+#[derive(Clone, Copy, Debug, PartialEq, Eq, Hash)]
 pub enum Choice {
     Keep,
     Clear,
@@ -19,7 +20,7 @@ pub enum Choice {
 }
 
 // What a rotation is made with: s and tau turn, h moves between the diagonal entries.
-#[derive(Clone, Copy)]
+#[derive(Clone, Copy, Debug)]
 pub struct Angle {
     pub s: Dual,
     pub tau: Dual,

@@ -7,10 +7,36 @@ use native.Mathlib.Nat.{pow-suc, pow-le-pow_right, mul-le-mul_left, mul-le-mul_r
 use native.Mathlib.Omega.{arith}
 use lib.Dec.{ltb, lit<}
 use lib.ListN.{length, get_or-eq_default}
-use borrow.Author.Tests.{le-leb, lt-leb, lt-ltb, le-ltb}
+use borrow.Author.Tests.{le-leb, lt-leb, lt-ltb, le-ltb, ltb-true, ltb-false}
+use Rattle.std.specs.Prelude.{Some, None}
 use Rattle.texts.specs.declared.Scan.{Scan}
 use Rattle.texts.specs.Bytes.{digit_zero, digit_nine, letter_a, letter_f}
-use Rattle.texts.specs.Digits.{byte_at, is_digit, digit_value, digit_run, number_at, scan_of}
+use Rattle.texts.specs.Digits.{byte_at, is_digit, digit_value, digit_of, digit_run, number_at, scan_of}
+
+-- ---- a digit of the base, or none
+pub digit_is : (base b v : ℕ) → v ≡ digit_value b → v < base → Some v ≡ digit_of base b
+digit_is base b v e h =
+    ap (λ (t : Bool). cond t (Some v) None) (sym (lt-ltb v base h))
+    ∙ ap (λ (x : ℕ). cond (ltb x base) (Some x) None) e
+
+pub digit_none : (base b v : ℕ) → v ≡ digit_value b → base ≤ v → None ≡ digit_of base b
+digit_none base b v e h =
+    ap (λ (t : Bool). cond t (Some v) None) (sym (le-ltb v base h))
+    ∙ ap (λ (x : ℕ). cond (ltb x base) (Some x) None) e
+
+digit_by : (base b d : ℕ) (t : Bool) → is_digit base b ≡ t → Some d ≡ cond t (Some (digit_value b)) None → (d ≡ digit_value b) × (d < base)
+digit_by base b d true e h = let g : d ≡ digit_value b = cc in let l : digit_value b < base = ltb-true (digit_value b) base e in (g, omega arith)
+digit_by base b d false e h = absurd (cc)
+
+pub digit_was : (base b d : ℕ) → Some d ≡ digit_of base b → (d ≡ digit_value b) × (d < base)
+digit_was base b d h = digit_by base b d (is_digit base b) refl h
+
+none_by : (base b : ℕ) (t : Bool) → is_digit base b ≡ t → None ≡ cond t (Some (digit_value b)) None → base ≤ digit_value b
+none_by base b true e h = absurd (cc)
+none_by base b false e h = ltb-false (digit_value b) base e
+
+pub digit_was_none : (base b : ℕ) → None ≡ digit_of base b → base ≤ digit_value b
+digit_was_none base b h = none_by base b (is_digit base b) refl h
 
 -- a number of k digits with one digit more
 grown : (v base d k : ℕ) → v < 16 ^ k → base ≤ 16 → d < base → k < 16 → (v * base + d < 2 ^ 64) × (v * base + d < 16 ^ (k + 1))
@@ -41,47 +67,47 @@ module _ (base : ℕ) (text : List ℕ) (most p : ℕ) where
   ended : (v k : ℕ) → v ≡ number_at base text p k → k ≡ digit_run base most text p → ◌≡◌ {A = Scan} (record { value = v; digits = k }) (scan_of base most text p)
   ended v k e g = ap {B = Scan} (λ (x : ℕ). record { value = x; digits = k }) e ∙ ap {B = Scan} (λ (x : ℕ). record { value = number_at base text p x; digits = x }) g
 
-  -- a turn: the byte b stands at p + k and has the value d
-  module _ (v k b d : ℕ) (scanned : Scanned base text most p v k) (inside : k < most) (at : b ≡ byte_at text (p + k)) (digit : d ≡ digit_value b) where
+  -- a turn: the byte b stands at p + k
+  module _ (v k b : ℕ) (scanned : Scanned base text most p v k) (inside : k < most) (at : b ≡ byte_at text (p + k)) where
     -- what is left, by its first byte
-    left : (t : Bool) → is_digit base (byte_at text (p + k)) ≡ t → digit_run base (most - k) text (p + k) ≡ cond t (suc (digit_run base (most - (k + 1)) text (p + k + 1))) 0
+    left : (t : Bool) → is_digit base b ≡ t → digit_run base (most - k) text (p + k) ≡ cond t (suc (digit_run base (most - (k + 1)) text (p + k + 1))) 0
     unfolding digit_run
     left t e =
         ap (λ (n : ℕ). digit_run base n text (p + k)) (let s : most - k ≡ suc (most - (k + 1)) = omega arith in s)
-        ∙ ap (λ (x : Bool). cond x (suc (digit_run base (most - (k + 1)) text (p + k + 1))) 0) e
+        ∙ ap (λ (x : Bool). cond x (suc (digit_run base (most - (k + 1)) text (p + k + 1))) 0) (ap (is_digit base) (sym at) ∙ e)
 
-    worth : d ≡ digit_value (byte_at text (p + k))
-    worth = digit ∙ ap digit_value at
+    -- a digit d more fits, and is one digit more of the number
+    module _ (d : ℕ) (digit : Some d ≡ digit_of base b) (hb : base ≤ 16) (hm : most ≤ 16) where
+      one_more : (v * base + d < 2 ^ 64) × (v * base + d < 16 ^ (k + 1))
+      one_more = grown v base d k scanned.small hb (digit_was base b d digit).1 (omega arith)
 
-    test : (t : Bool) → ltb d base ≡ t → is_digit base (byte_at text (p + k)) ≡ t
-    test t e = ap (λ (x : ℕ). ltb x base) (sym worth) ∙ e
+      pub digit_fits : v * base + d < 2 ^ 64
+      digit_fits = one_more.0
 
-    -- a digit more fits, and is one digit more of the number
-    pub digit_fits : base ≤ 16 → most ≤ 16 → d < base → v * base + d < 2 ^ 64
-    digit_fits hb hm hd = (grown v base d k scanned.small hb hd (omega arith)).0
+      pub product_fits : v * base < 2 ^ 64
+      product_fits = let h = one_more.0 in omega arith
 
-    pub product_fits : base ≤ 16 → most ≤ 16 → d < base → v * base < 2 ^ 64
-    product_fits hb hm hd = let h = digit_fits hb hm hd in omega arith
-
-    pub scanned_more : base ≤ 16 → most ≤ 16 → d < base → Scanned base text most p (v * base + d) (k + 1)
-    unfolding number_at
-    scanned_more hb hm hd =
-        let l : digit_run base (most - k) text (p + k) ≡ suc (digit_run base (most - (k + 1)) text (p + k + 1)) = left true (test true (lt-ltb d base hd)) in
-        let q : digit_run base (most - (k + 1)) text (p + k + 1) ≡ digit_run base (most - (k + 1)) text (p + (k + 1)) = ap (digit_run base (most - (k + 1)) text) (let z : p + k + 1 ≡ p + (k + 1) = omega arith in z) in
-        let i = scanned.passed in
-        record {
-          within = omega arith;
-          small = (grown v base d k scanned.small hb hd (omega arith)).1;
-          spelled =
-              ap (λ (x : ℕ). x * base + d) scanned.spelled ∙ ap (λ (x : ℕ). number_at base text p k * base + x) worth
-              ∙ ap (number_at base text p) (let z : suc k ≡ k + 1 = omega arith in z);
-          passed = omega arith;
-        }
+      pub scanned_more : Scanned base text most p (v * base + d) (k + 1)
+      unfolding number_at
+      scanned_more =
+          let was = digit_was base b d digit in
+          let l : digit_run base (most - k) text (p + k) ≡ suc (digit_run base (most - (k + 1)) text (p + k + 1)) = left true (lt-ltb (digit_value b) base (omega arith)) in
+          let q : digit_run base (most - (k + 1)) text (p + k + 1) ≡ digit_run base (most - (k + 1)) text (p + (k + 1)) = ap (digit_run base (most - (k + 1)) text) (let z : p + k + 1 ≡ p + (k + 1) = omega arith in z) in
+          let i = scanned.passed in
+          record {
+            within = omega arith;
+            small = one_more.1;
+            spelled =
+                ap (λ (x : ℕ). x * base + d) scanned.spelled
+                ∙ ap (λ (x : ℕ). number_at base text p k * base + x) (was.0 ∙ ap digit_value at)
+                ∙ ap (number_at base text p) (let z : suc k ≡ k + 1 = omega arith in z);
+            passed = omega arith;
+          }
 
     -- a byte that is no digit ends them
-    pub scanned_stops : base ≤ d → ◌≡◌ {A = Scan} (record { value = v; digits = k }) (scan_of base most text p)
+    pub scanned_stops : None ≡ digit_of base b → ◌≡◌ {A = Scan} (record { value = v; digits = k }) (scan_of base most text p)
     scanned_stops h =
-        let l : digit_run base (most - k) text (p + k) ≡ 0 = left false (test false (le-ltb d base h)) in
+        let l : digit_run base (most - k) text (p + k) ≡ 0 = left false (le-ltb (digit_value b) base (digit_was_none base b h)) in
         let i = scanned.passed in
         ended v k scanned.spelled (omega arith)
 
@@ -128,3 +154,29 @@ value_letter b g h = let f : digit_zero ≤ b = omega arith in let e : digit_nin
 pub value_over_letters : (b : ℕ) → letter_f < b → 16 ≡ digit_value b
 unfolding digit_value
 value_over_letters b h = let f : digit_zero ≤ b = omega arith in let e : digit_nine < b = omega arith in let g : letter_a ≤ b = omega arith in rw (le-leb digit_zero b f, lt-leb b digit_nine e, le-leb letter_a b g, lt-leb b letter_f h)
+
+-- a decimal digit lies among 0 to 9
+pub decimal_digit : (b : ℕ) → is_digit 10 b ≡ true → (digit_zero ≤ b) × (b - digit_zero ≡ digit_value b)
+decimal_digit b e = under (ltb b digit_zero) refl
+  where
+    small : digit_value b < 10
+    small = ltb-true (digit_value b) 10 e
+
+    far : (v : ℕ) → v ≡ digit_value b → 10 ≤ v → ⊥
+    far v q h = let s = small in omega arith
+
+    letter : (t : Bool) → ltb letter_f b ≡ t → letter_a ≤ b → ⊥
+    letter true q g = far 16 (value_over_letters b (ltb-true letter_f b q)) (omega arith)
+    letter false q g = far (b - letter_a + 10) (value_letter b g (ltb-false letter_f b q)) (omega arith)
+
+    over : (t : Bool) → ltb b letter_a ≡ t → digit_nine < b → ⊥
+    over true q g = far 16 (value_between b g (ltb-true b letter_a q)) (omega arith)
+    over false q g = letter (ltb letter_f b) refl (ltb-false b letter_a q)
+
+    among : (t : Bool) → ltb digit_nine b ≡ t → digit_zero ≤ b → (digit_zero ≤ b) × (b - digit_zero ≡ digit_value b)
+    among true q g = absurd (over (ltb b letter_a) refl (ltb-true digit_nine b q))
+    among false q g = (g, value_digit b g (ltb-false digit_nine b q))
+
+    under : (t : Bool) → ltb b digit_zero ≡ t → (digit_zero ≤ b) × (b - digit_zero ≡ digit_value b)
+    under true q = absurd (far 16 (value_under_digits b (ltb-true b digit_zero q)) (omega arith))
+    under false q = among (ltb digit_nine b) refl (ltb-false b digit_zero q)

@@ -6,6 +6,7 @@ use native.Mathlib.Omega.{arith}
 use lib.Dec.{ltb, eqb}
 use borrow.Author.Count.{below_more}
 use borrow.Author.Tests.{ltb-true, ltb-false, eq-eqb, ne_eqb}
+use Rattle.std.specs.Prelude.{IsTrue}
 use Rattle.texts.specs.Digits.{every}
 
 pub and_false : (b : Bool) → (b && false) ≡ false
@@ -65,3 +66,12 @@ module _ (p : ℕ → Bool) (n : ℕ) where
 
   pub passed_all : (i : ℕ) → Passed p n i → n ≤ i → every p n ≡ true
   passed_all i h le = every_true p n (λ k lt. h.each k (omega arith))
+
+-- the same of a chain that tests every item of a list
+pub every_said : (p : ℕ → Bool) (q : ℕ → Type 0) (n : ℕ) (r : Bool) → ((k : ℕ) → q k → p k ≡ true) → ((k : ℕ) → p k ≡ true → q k) → (IsTrue r → (k : ℕ) → k < n → q k) → (((k : ℕ) → k < n → q k) → IsTrue r) → r ≡ every p n
+every_said p q n true a b f g = sym (every_true p n (λ k lt. a k (f refl k lt)))
+every_said p q n false a b f g = by (every p n) refl
+  where
+    by : (t : Bool) → every p n ≡ t → false ≡ every p n
+    by true e = absurd (true≢false (sym (g (λ k lt. b k (every_at p n k e lt)))))
+    by false e = sym e

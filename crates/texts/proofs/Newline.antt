@@ -7,7 +7,8 @@ use native.Mathlib.Omega.{arith}
 use lib.Dec.{leb, ltb, eqb}
 use lib.ListN.{length}
 use borrow.Author.Tests.{ltb-true, ltb-false, ne_eqb, eqb-false, not-true}
-use Rattle.texts.specs.declared.Number.TheVariants.{Is, Not}
+use Rattle.std.specs.Prelude.{Some, None}
+use Rattle.texts.specs.declared.Number.{Number}
 use Rattle.texts.specs.Bytes.{newline}
 use Rattle.texts.specs.Digits.{byte_at, no_newline, is_digit, digit_value, digit_run, number_at}
 use Rattle.texts.specs.Numbers.{number_from}
@@ -56,12 +57,12 @@ module _ (t : List ℕ) where
       by true e more = clear_fewer (p + suc (digit_run 10 d t (p + 1))) (more (clear_more p c (digit_clear (byte_at t p) e))) (omega arith)
       by false e more = clear_fewer (p + 0) c (omega arith)
 
-  pub number_clear : (most p value end : ℕ) → number_from most t p ≡ Is value end → Clear t p → Clear t end
+  pub number_clear : (most p : ℕ) (n : Number) → number_from most t p ≡ Some n → Clear t p → Clear t n.end
   unfolding number_from
-  number_clear most p value end e c =
+  number_clear most p n e c =
       let k = digit_run 10 (most + 1) t p in
       subst (Clear t) (ap end_of e) (by k (ltb 0 k && leb k most) (run_clear (most + 1) p c))
     where
-      by : (k : ℕ) (b : Bool) → Clear t (p + k) → Clear t (end_of (cond b (Is (number_at 10 t p k) (p + k)) Not))
+      by : (k : ℕ) (b : Bool) → Clear t (p + k) → Clear t (end_of (cond b (Some (record { value = number_at 10 t p k; end = p + k })) None))
       by k true h = h
       by k false h = clear_none

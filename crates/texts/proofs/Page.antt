@@ -1,15 +1,18 @@
 -- What is written piece by piece is written as a whole: the one law of the writers. Assumes nothing.
-use Prim.Native.Nat.{ℕ, suc, ◌+◌, ◌<◌, ◌≤◌}
+use Prim.Native.Nat.{ℕ, suc, ◌+◌, ◌-◌, ◌<◌, ◌≤◌}
 use mathlib.Core.Path.{◌≡◌, refl, sym, ap, ◌∙◌, subst}
 use mathlib.Core.Bool.{Bool, true, false, cond}
-use mathlib.Core.List.{List, [], ◌∷◌, ◌++◌}
-use native.Mathlib.Numerals.{add-one}
+use mathlib.Core.List.{List, [], ◌∷◌, ◌++◌, append_assoc}
 use native.Mathlib.Omega.{arith}
 use lib.Dec.{ltb}
-use lib.Seq.{sets, length-take-le, take-suc, take_all}
+use borrow.Rule.Slice.PartMut.{put_mid}
+use Rattle.std.proofs.lemmas.Slice.{put_mid-paste}
+use Rattle.std.proofs.lemmas.List.Edits.{paste_all}
+use lib.Seq.{sets, sets-eq, length-take-le}
 use borrow.Author.Tests.{ltb-true, ltb-false, lt-ltb, le-ltb}
-use lib.ListN.{length, length-set, set, take, drop, get_or, take-append-drop, drop_of_length-le}
-use Rattle.texts.specs.Page.{Page, page, with_byte, written, Fitting}
+use lib.ListN.{length, length-set, set, take, drop, take-append-drop, drop_of_length-le}
+use Rattle.texts.specs.declared.write.Writer.{Writer}
+use Rattle.texts.specs.Page.{Page, page, with_byte, written, page_of, Puts, Fitting}
 
 pub written_append : (p : Page) (a b : List ℕ) → written (written p a) b ≡ written p (a ++ b)
 unfolding written
@@ -89,13 +92,6 @@ module _ (upto : ℕ → List ℕ) (n : ℕ) where
     pub pieces_all : (text : List ℕ) → n ≤ i → upto n ≡ text → page out end ≡ written p text
     pieces_all text h g = so_far.put ∙ ap (λ (k : ℕ). written p (upto k)) (let w = so_far.within in let e : i ≡ n = omega arith in e) ∙ ap (written p) g
 
--- a text, byte after byte
-pub byte_more : (t : List ℕ) (i : ℕ) → i < length t → take i t ++ (get_or t i 0 ∷ []) ≡ take (i + 1) t
-byte_more t i h = sym (take-suc t i 0 h) ∙ ap (λ (k : ℕ). take k t) (sym (add-one i))
-
-pub text_all : (p : Page) (t out : List ℕ) (end i : ℕ) → Pieces (λ j. take j t) (length t) p out end i → length t ≤ i → page out end ≡ written p t
-text_all p t out end i f h = pieces_all (λ j. take j t) (length t) p out end i f t h (take_all (length t) t (omega arith))
-
 -- ---- a text as far as it fits: one test for all of it
 -- a page that is full takes no more
 written_full : (l : List ℕ) (at : ℕ) (a : List ℕ) → length l ≤ at → written (page l at) a ≡ page l at
@@ -103,43 +99,63 @@ unfolding written
 written_full l at [] h = refl
 written_full l at (x ∷ a) h = ap (λ (b : Bool). written (cond b (page (set l at x) (at + 1)) (page l at)) a) (le-ltb at (length l) h) ∙ written_full l at a h
 
--- a byte where there is room
-byte_put : (l : List ℕ) (at b : ℕ) → at < length l → page (set l at b) (at + 1) ≡ written (page l at) (b ∷ [])
-unfolding written
-byte_put l at b h = rw (lt-ltb at (length l) h)
+-- a part of the page replaced by a text of its length
+part_put : (l : List ℕ) (at k : ℕ) (t : List ℕ) → length t ≡ k → at + k ≤ length l → page (put_mid at k l t) (at + k) ≡ written (page l at) t
+part_put l at k t e h =
+    let all : written (page l at) t ≡ page (sets l at t) (at + length t) = written_fits l at t (omega arith) in
+    let part : sets l at t ≡ put_mid at k l t =
+    sets-eq t l at (omega arith)
+    ∙ ap (λ (n : ℕ). take at l ++ t ++ drop (at + n) l) e
+    ∙ append_assoc (take at l) t (drop (at + k) l)
+    ∙ sym (put_mid-paste at k l t t k refl refl (sym e) ∙ paste_all l at t k (sym e)) in
+    sym (all ∙ ap (λ (x : List ℕ). page x (at + length t)) part ∙ ap (λ (n : ℕ). page (put_mid at k l t) (at + n)) e)
 
--- what the loop keeps: of the count bytes of t that fit after the first `at` of l, i are written
-pub record Copying (l : List ℕ) (at : ℕ) (t : List ℕ) (count : ℕ) (out : List ℕ) (i : ℕ) : Type 0 where
-  pub within : i ≤ count
-  pub size : length out ≡ length l
-  pub put : page out (at + i) ≡ written (page l at) (take i t)
-
+-- a text as far as it fits after the first `at` of l: count of its bytes
 module _ (l : List ℕ) (at : ℕ) (t : List ℕ) (count : ℕ) (fits : Fitting (length l) at (length t) count) where
-  pub copying_none : Copying l at t count l 0
+  -- what fits is all, or the page is full
+  rest_put : (out : List ℕ) → length out ≡ length l → page out (at + count) ≡ written (page l at) (take count t) → page out (at + count) ≡ written (page l at) t
   unfolding written
-  copying_none = record { within = omega arith; size = refl; put = ap (page l) (let e : at + 0 ≡ at = omega arith in e) }
+  rest_put out size put =
+      then (page l at) (take count t) (drop count t) put (sym (rest (ltb count (length t)) refl))
+      ∙ ap (written (page l at)) (take-append-drop count t)
+    where
+      rest : (b : Bool) → ltb count (length t) ≡ b → written (page out (at + count)) (drop count t) ≡ page out (at + count)
+      rest true e = let full = fits.full (ltb-true count (length t) e) in written_full out (at + count) (drop count t) (omega arith)
+      rest false e = ap (written (page out (at + count))) (drop_of_length-le t (ltb-false count (length t) e))
 
-  module _ (out : List ℕ) (i : ℕ) (so_far : Copying l at t count out i) where
-    pub copying_more : i < count → Copying l at t count (set out (at + i) (get_or t i 0)) (i + 1)
-    copying_more h = record {
-      within = omega arith;
-      size = length-set out (at + i) (get_or t i 0) ∙ so_far.size;
-      put =
-          ap (page (set out (at + i) (get_or t i 0))) (let e : at + (i + 1) ≡ at + i + 1 = omega arith in e)
-          ∙ then (page l at) (take i t) (get_or t i 0 ∷ []) so_far.put (byte_put out (at + i) (get_or t i 0) (omega arith))
-          ∙ ap (written (page l at)) (byte_more t i (omega arith));
-    }
+  pub some_put : (k : ℕ) (part : List ℕ) → k ≡ count → part ≡ take count t → 0 < count → page (put_mid at k l part) (at + count) ≡ written (page l at) t
+  some_put k part e f h =
+      subst (λ (n : ℕ). page (put_mid at n l part) (at + count) ≡ written (page l at) t) (sym e)
+      (subst (λ (x : List ℕ). page (put_mid at count l x) (at + count) ≡ written (page l at) t) (sym f)
+      (rest_put (put_mid at count l (take count t)) size (part_put l at count (take count t) long (omega arith))))
+    where
+      m : count ≤ length t
+      m = fits.most
 
-    -- what fits is all, or the page is full
-    pub copying_all : count ≤ i → page out (at + count) ≡ written (page l at) t
-    unfolding written
-    copying_all h =
-        then (page l at) (take count t) (drop count t) put (sym (rest (ltb count (length t)) refl))
-        ∙ ap (written (page l at)) (take-append-drop count t)
-      where
-        put : page out (at + count) ≡ written (page l at) (take count t)
-        put = subst (λ (k : ℕ). page out (at + k) ≡ written (page l at) (take k t)) (let e : i ≡ count = omega arith in e) so_far.put
+      i : count ≤ length l - at
+      i = fits.inside
 
-        rest : (b : Bool) → ltb count (length t) ≡ b → written (page out (at + count)) (drop count t) ≡ page out (at + count)
-        rest true e = let full = fits.full (ltb-true count (length t) e) in written_full out (at + count) (drop count t) (omega arith)
-        rest false e = ap (written (page out (at + count))) (drop_of_length-le t (ltb-false count (length t) e))
+      long : length (take count t) ≡ count
+      long = length-take-le count t m
+
+      size : length (put_mid at count l (take count t)) ≡ length l
+      size = ap (λ (p : Page). length p.bytes) (part_put l at count (take count t) long (omega arith)) ∙ written_length (page l at) (take count t)
+
+  pub none_put : count ≡ 0 → page l at ≡ written (page l at) t
+  unfolding written
+  none_put e = subst (λ (n : ℕ). page l n ≡ written (page l at) t) (let z : at + count ≡ at = omega arith in z) (rest_put l refl (ap (page l) (let z : at + count ≡ at = omega arith in z) ∙ ap (λ (n : ℕ). written (page l at) (take n t)) (sym e)))
+
+-- ---- writers: one text after the other
+pub puts_none : {w : Writer} → Puts w w []
+unfolding written
+puts_none = record { lent = refl; put = refl }
+
+pub puts_then : {u v w : Writer} (a b : List ℕ) → Puts u v a → Puts v w b → Puts u w (a ++ b)
+puts_then {u} a b f g = record { lent = g.lent ∙ f.lent; put = then (page_of u) a b f.put g.put }
+
+pub puts_as : {u v : Writer} {a b : List ℕ} → Puts u v a → a ≡ b → Puts u v b
+puts_as {u} f e = record { lent = f.lent; put = f.put ∙ ap (written (page_of u)) e }
+
+-- from a new writer to the buffer that it leaves
+pub puts_all : {v w : Writer} {l out : List ℕ} (a : List ℕ) → page_of v ≡ page l 0 → Puts v w a → out ≡ w.out.now → page out w.used ≡ written (page l 0) a
+puts_all {w = w} a e f h = ap (λ (m : List ℕ). page m w.used) h ∙ f.put ∙ ap (λ (p : Page). written p a) e

@@ -6,12 +6,11 @@ use native.Mathlib.Nat.{pow-suc, div-lt_iff_lt-mul, lt_of_lt_of_le}
 use native.Mathlib.Numerals.{add-one}
 use native.Mathlib.Omega.{arith}
 use lib.Dec.{lit<, lit≤}
-use lib.ListN.{length, length-set, length-drop, set, take, drop, drop_of_length-le}
-use lib.Seq.{append_snoc, set_split, drop_at, length-take-le, take_all}
+use lib.ListN.{length, length-set, set, take, drop, drop_of_length-le}
+use lib.Seq.{append_snoc, set_split, drop_at, length-take-le}
 use borrow.Author.Tests.{lt-ltb, le-ltb}
 use Rattle.io.specs.Digits.{hex_digit_ascii, last_digits}
 use Rattle.texts.specs.Bytes.{digit_zero}
-use Rattle.texts.specs.Page.{Page, written}
 use Rattle.texts.specs.Numbers.{places, decimal_text, Spelled}
 use Rattle.texts.proofs.DigitsBack.{low_glyph}
 
@@ -96,7 +95,3 @@ module _ (n : ℕ) (l : List ℕ) where
         ∙ ap (λ (t : List ℕ). t ++ drop (start + 1) l) (sym (one_digit start rest (omega arith)))
         ∙ s.text;
   }
-
--- ---- written: the bytes from start on, as a part of the array
-pub spelled_written : (p q : Page) (l : List ℕ) (n start : ℕ) → q ≡ written p (take (20 - start) (drop start l)) → Spelled n l start → q ≡ written p (decimal_text n)
-spelled_written p q l n start e s = e ∙ ap (written p) (take_all (20 - start) (drop start l) (simp length-drop (omega arith)) ∙ s.text)

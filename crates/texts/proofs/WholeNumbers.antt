@@ -1,52 +1,92 @@
 -- Digits of any number, read to their end, and two numbers compared from theirs. Assumes nothing.
 use Prim.Native.Nat.{ℕ, zero, suc, ◌+◌, ◌-◌, ◌*◌, ◌<◌, ◌≤◌}
 use mathlib.Core.Path.{◌≡◌, refl, sym, ap, ◌∙◌, subst}
-use mathlib.Core.Bool.{Bool, true, false, cond, true≢false}
-use mathlib.Core.List.{List, [], ◌∷◌}
+use mathlib.Core.Bool.{Bool, true, false, cond, not, ◌&&◌, true≢false}
+use mathlib.Core.List.{List, [], ◌∷◌, ◌++◌, append-nil}
 use native.Mathlib.Omega.{arith}
 use lib.Dec.{leb, ltb, eqb}
-use lib.ListN.{length, drop, drop_of_length-le}
-use lib.Seq.{drop-cons, drop-drop, get_or-drop}
-use borrow.Author.Count.{below_more}
+use lib.ListN.{length, take, drop, length-drop, drop_of_length-le}
+use lib.Seq.{drop-cons, take-suc, take_all, append_snoc}
 use borrow.Author.Tests.{leb-true, leb-false, lt-ltb, le-ltb, ltb-true, ltb-false, eq-eqb, ne_eqb, eqb-true}
-use Rattle.texts.specs.declared.Scan.{Scan}
-use Rattle.texts.specs.Digits.{byte_at, is_digit, digit_value, number_at}
-use Rattle.texts.specs.Whole.{worth, past, last_of, Capped, Grown, Found, DigitsAt}
-use Rattle.texts.proofs.Digits.{past_end}
+use Rattle.std.specs.Prelude.{Some, None}
+use Rattle.std.specs.List.{list_all, range_with_len}
+use Rattle.texts.specs.declared.whole.Whole.{Whole}
+use Rattle.texts.specs.Bytes.{digit_zero}
+use Rattle.texts.specs.Digits.{byte_at, is_digit, digit_value, digit_of, number_at}
+use Rattle.texts.specs.Whole.{worth, past, front, from_end, AllDigits, Capped, Grown, Found}
+use Rattle.texts.proofs.Digits.{decimal_digit, digit_was, digit_was_none}
 
--- ---- what is left of a text from i on, by its first byte
-module _ (text : List ℕ) (i : ℕ) where
-  pub worth_digit : (v : ℕ) → i < length text → is_digit 10 (byte_at text i) ≡ true → worth v (drop i text) ≡ worth (v * 10 + digit_value (byte_at text i)) (drop (suc i) text)
-  unfolding worth
-  worth_digit v h e = rw (drop-cons text i 0 h, e)
+-- ---- the digits that a text begins with, and the text after them
+pub front_past : (l : List ℕ) → l ≡ front l ++ past l
+unfolding front past
+front_past [] = refl
+front_past (b ∷ l) = by (is_digit 10 b) (front_past l)
+  where
+    by : (t : Bool) → l ≡ front l ++ past l → b ∷ l ≡ cond t (b ∷ front l) [] ++ cond t (past l) (b ∷ l)
+    by true more = ap (λ (r : List ℕ). b ∷ r) more
+    by false more = refl
 
-  pub worth_other : (v : ℕ) → i < length text → is_digit 10 (byte_at text i) ≡ false → worth v (drop i text) ≡ v
-  unfolding worth
-  worth_other v h e = rw (drop-cons text i 0 h, e)
+pub front_worth : (l : List ℕ) (v : ℕ) → worth v (front l) ≡ worth v l
+unfolding front worth
+front_worth [] v = refl
+front_worth (b ∷ l) v = by (is_digit 10 b) refl (front_worth l (v * 10 + digit_value b))
+  where
+    by : (t : Bool) → is_digit 10 b ≡ t → worth (v * 10 + digit_value b) (front l) ≡ worth (v * 10 + digit_value b) l → worth v (cond t (b ∷ front l) []) ≡ cond t (worth (v * 10 + digit_value b) l) v
+    by true e more = rw e more
+    by false e more = refl
 
-  pub worth_end : (v : ℕ) → length text ≤ i → worth v (drop i text) ≡ v
-  unfolding worth
-  worth_end v h = rw (drop_of_length-le text h)
+pub front_digits : (l : List ℕ) → AllDigits (front l)
+unfolding front
+front_digits [] = λ j h. absurd (omega arith)
+front_digits (b ∷ l) = by (is_digit 10 b) refl (front_digits l)
+  where
+    by : (t : Bool) → is_digit 10 b ≡ t → AllDigits (front l) → AllDigits (cond t (b ∷ front l) [])
+    by true e more = each
+      where
+        each : (j : ℕ) → j < length (b ∷ front l) → is_digit 10 (byte_at (b ∷ front l) j) ≡ true
+        each zero h = e
+        each (suc j) h = more j (omega arith)
+    by false e more = λ j h. absurd (omega arith)
 
-  pub past_digit : i < length text → is_digit 10 (byte_at text i) ≡ true → past (drop i text) ≡ past (drop (suc i) text)
-  unfolding past
-  past_digit h e = rw (drop-cons text i 0 h, e)
+-- there is one if the first byte is a digit
+pub front_some : (l : List ℕ) → not (eqb (length (front l)) 0) ≡ is_digit 10 (byte_at l 0)
+unfolding front digit_value
+front_some [] = refl
+front_some (b ∷ l) = by (is_digit 10 b)
+  where
+    by : (t : Bool) → not (eqb (length (cond t (b ∷ front l) [])) 0) ≡ t
+    by true = ap not (ne_eqb (suc (length (front l))) 0 (λ e. omega arith))
+    by false = refl
 
-  pub past_other : i < length text → is_digit 10 (byte_at text i) ≡ false → past (drop i text) ≡ drop i text
-  unfolding past
-  past_other h e = ap past (drop-cons text i 0 h) ∙ ap (λ (t : Bool). cond t (past (drop (suc i) text)) (byte_at text i ∷ drop (suc i) text)) e ∙ sym (drop-cons text i 0 h)
+-- ---- what is left of a text from k on, by its first byte
+module _ (text : List ℕ) (k : ℕ) (inside : k < length text) where
+  module _ (e : is_digit 10 (byte_at text k) ≡ true) where
+    pub worth_digit : (v : ℕ) → worth v (drop k text) ≡ worth (v * 10 + digit_value (byte_at text k)) (drop (suc k) text)
+    unfolding worth
+    worth_digit v = rw (drop-cons text k 0 inside, e)
 
-  pub past_none : length text ≤ i → past (drop i text) ≡ drop i text
-  unfolding past
-  past_none h = rw (drop_of_length-le text h)
+    past_digit : past (drop k text) ≡ past (drop (suc k) text)
+    unfolding past
+    past_digit = rw (drop-cons text k 0 inside, e)
+
+    front_digit : front (drop k text) ≡ byte_at text k ∷ front (drop (suc k) text)
+    unfolding front
+    front_digit = rw (drop-cons text k 0 inside, e)
+
+  module _ (e : is_digit 10 (byte_at text k) ≡ false) where
+    worth_other : (v : ℕ) → worth v (drop k text) ≡ v
+    unfolding worth
+    worth_other v = rw (drop-cons text k 0 inside, e)
+
+    past_other : past (drop k text) ≡ drop k text
+    unfolding past
+    past_other = ap past (drop-cons text k 0 inside) ∙ ap (λ (t : Bool). cond t (past (drop (suc k) text)) (byte_at text k ∷ drop (suc k) text)) e ∙ sym (drop-cons text k 0 inside)
+
+    front_other : front (drop k text) ≡ []
+    unfolding front
+    front_other = rw (drop-cons text k 0 inside, e)
 
 -- ---- a number with a digit more, as far as it is kept
-pub grown_more : (most v digit : ℕ) → v ≤ most → digit < 10 → Grown most v digit (v * 10 + digit)
-grown_more most v digit h g = record { small = omega arith; more = λ l. refl; stays = λ l. absurd (omega arith) }
-
-pub grown_stays : (most v digit : ℕ) → v ≤ most * 10 + 9 → most < v → Grown most v digit v
-grown_stays most v digit s h = record { small = s; more = λ l. absurd (omega arith); stays = λ l. refl }
-
 capped_more : (most v w d r : ℕ) → Capped most v w → Grown most v d r → Capped most r (w * 10 + d)
 capped_more most v w d r c g = by (leb v most) refl
   where
@@ -62,61 +102,65 @@ capped_more most v w d r c g = by (leb v most) refl
         let k : r ≡ v = g.stays h in
         record { same = λ l. absurd (omega arith); above = λ l. omega arith }
 
--- ---- what the reader of digits keeps: k of them are read, and v stands for their number
-pub record Scanning (most : ℕ) (text : List ℕ) (p v k : ℕ) : Type 0 where
+-- ---- what the reader of digits keeps: the first k bytes are digits, which spell a number, and v stands for it
+pub record Scanning (most : ℕ) (text : List ℕ) (v k : ℕ) : Type 0 where
   pub small : v ≤ most * 10 + 9
-  pub value : Capped most v (number_at 10 text p k)
-  pub worths : worth 0 (drop p text) ≡ worth (number_at 10 text p k) (drop (p + k) text)
-  pub rest : past (drop p text) ≡ past (drop (p + k) text)
-  pub digits : DigitsAt text p k
+  pub spelled : ℕ
+  pub value : Capped most v spelled
+  pub worths : worth 0 text ≡ worth spelled (drop k text)
+  pub front_so_far : front text ≡ take k text ++ front (drop k text)
+  pub rest : past text ≡ past (drop k text)
 
-module _ (most : ℕ) (text : List ℕ) (p : ℕ) where
-  pub scanning_none : p ≤ length text → Scanning most text p 0 0
-  unfolding number_at
-  scanning_none h =
-      let here : p ≡ p + 0 = omega arith in record {
-        small = omega arith;
-        value = record { same = λ l. refl; above = λ l. absurd (omega arith) };
-        worths = ap (λ (i : ℕ). worth 0 (drop i text)) here;
-        rest = ap (λ (i : ℕ). past (drop i text)) here;
-        digits = record { inside = omega arith; all = λ j lt. absurd (omega arith) };
-      }
+module _ (most : ℕ) (text : List ℕ) where
+  pub scanning_none : Scanning most text 0 0
+  scanning_none = record {
+    small = omega arith;
+    spelled = 0;
+    value = record { same = λ l. refl; above = λ l. absurd (omega arith) };
+    worths = refl;
+    front_so_far = refl;
+    rest = refl;
+  }
 
-  module _ (v k : ℕ) (s : Scanning most text p v k) where
-    pub scanning_more : (d r : ℕ) → k < length text - p → d ≡ digit_value (byte_at text (p + k)) → d < 10 → Grown most v d r → Scanning most text p r (k + 1)
-    unfolding number_at
-    scanning_more d r h e small g =
-        let inside : p + k < length text = omega arith in
-        let digit : is_digit 10 (byte_at text (p + k)) ≡ true = lt-ltb (digit_value (byte_at text (p + k))) 10 (omega arith) in
-        let more : number_at 10 text p k * 10 + digit_value (byte_at text (p + k)) ≡ number_at 10 text p (k + 1) = ap (number_at 10 text p) (let z : suc k ≡ k + 1 = omega arith in z) in
-        let one : suc (p + k) ≡ p + (k + 1) = omega arith in record {
+  module _ (v k : ℕ) (s : Scanning most text v k) where
+    -- a digit d more
+    pub scanning_more : (d r : ℕ) → k < length text → Some d ≡ digit_of 10 (byte_at text k) → Grown most v d r → Scanning most text r (k + 1)
+    scanning_more d r inside e g =
+        let was = digit_was 10 (byte_at text k) d e in
+        let digit : is_digit 10 (byte_at text k) ≡ true = lt-ltb (digit_value (byte_at text k)) 10 (omega arith) in
+        let one : suc k ≡ k + 1 = omega arith in record {
           small = g.small;
-          value = subst (Capped most r) (ap (λ (x : ℕ). number_at 10 text p k * 10 + x) e ∙ more) (capped_more most v (number_at 10 text p k) d r s.value g);
-          worths =
-              s.worths ∙ worth_digit text (p + k) (number_at 10 text p k) inside digit
-              ∙ ap (λ (x : ℕ). worth x (drop (suc (p + k)) text)) more
-              ∙ ap (λ (i : ℕ). worth (number_at 10 text p (k + 1)) (drop i text)) one;
-          rest = s.rest ∙ past_digit text (p + k) inside digit ∙ ap (λ (i : ℕ). past (drop i text)) one;
-          digits = record { inside = omega arith; all = below_more (λ j. is_digit 10 (byte_at text (p + j)) ≡ true) k s.digits.all digit };
+          spelled = s.spelled * 10 + digit_value (byte_at text k);
+          value = subst (λ (x : ℕ). Capped most r (s.spelled * 10 + x)) was.0 (capped_more most v s.spelled d r s.value g);
+          worths = s.worths ∙ worth_digit text k inside digit s.spelled ∙ ap (λ (i : ℕ). worth (s.spelled * 10 + digit_value (byte_at text k)) (drop i text)) one;
+          front_so_far =
+              s.front_so_far
+              ∙ ap (λ (l : List ℕ). take k text ++ l) (front_digit text k inside digit)
+              ∙ sym (append_snoc (take k text) (byte_at text k) (front (drop (suc k) text)))
+              ∙ ap (λ (l : List ℕ). l ++ front (drop (suc k) text)) (sym (take-suc text k 0 inside))
+              ∙ ap (λ (i : ℕ). take i text ++ front (drop i text)) one;
+          rest = s.rest ∙ past_digit text k inside digit ∙ ap (λ (i : ℕ). past (drop i text)) one;
         }
 
-    found : worth (number_at 10 text p k) (drop (p + k) text) ≡ number_at 10 text p k → past (drop (p + k) text) ≡ drop (p + k) text → Found most text p (record { value = v; digits = k })
-    found a b = record {
-      value = subst (Capped most v) (sym a ∙ sym s.worths) s.value;
-      rest = sym (s.rest ∙ b);
-      spelled = s.worths ∙ a;
-      digits = s.digits;
+    found : (w : Whole) → w.value ≡ v → w.digits.now ≡ take k text → w.rest.now ≡ drop k text → worth s.spelled (drop k text) ≡ s.spelled → front (drop k text) ≡ [] → past (drop k text) ≡ drop k text → Found most text w
+    found w e f g a b c = record {
+      value = subst (Capped most w.value) (sym (s.worths ∙ a)) (subst (λ (x : ℕ). Capped most x s.spelled) (sym e) s.value);
+      digits = f ∙ sym (s.front_so_far ∙ ap (λ (l : List ℕ). take k text ++ l) b ∙ append-nil (take k text));
+      rest = g ∙ sym (s.rest ∙ c);
     }
 
     -- a byte that is no digit ends them, and so does the end of the text
-    pub scanning_stops : (d : ℕ) → k < length text - p → d ≡ digit_value (byte_at text (p + k)) → 10 ≤ d → Found most text p (record { value = v; digits = k })
-    scanning_stops d h e large =
-        let inside : p + k < length text = omega arith in
-        let other : is_digit 10 (byte_at text (p + k)) ≡ false = le-ltb (digit_value (byte_at text (p + k))) 10 (omega arith) in
-        found (worth_other text (p + k) (number_at 10 text p k) inside other) (past_other text (p + k) inside other)
+    pub scanning_stops : (w : Whole) → k < length text → None ≡ digit_of 10 (byte_at text k) → w.value ≡ v → w.digits.now ≡ take k text → w.rest.now ≡ take (length text - k) (drop k text) → Found most text w
+    scanning_stops w inside e q f g =
+        let other : is_digit 10 (byte_at text k) ≡ false = le-ltb (digit_value (byte_at text k)) 10 (digit_was_none 10 (byte_at text k) e) in
+        found w q f (g ∙ take_all (length text - k) (drop k text) (omega (arith, length-drop k text)))
+        (worth_other text k inside other s.spelled) (front_other text k inside other) (past_other text k inside other)
 
-    pub scanning_ends : length text - p ≤ k → Found most text p (record { value = v; digits = k })
-    scanning_ends h = let g : length text ≤ p + k = omega arith in found (worth_end text (p + k) (number_at 10 text p k) g) (past_none text (p + k) g)
+    pub scanning_ends : (w : Whole) → length text ≤ k → w.value ≡ v → w.digits.now ≡ text → w.rest.now ≡ [] → Found most text w
+    unfolding worth past front
+    scanning_ends w h q f g =
+        let none : drop k text ≡ [] = drop_of_length-le text h in
+        found w q (f ∙ sym (take_all k text h)) (g ∙ sym none) (ap (worth s.spelled) none) (ap front none) (ap past none ∙ sym none)
 
 -- ---- two numbers, compared from their ends
 ends : (x y d e : ℕ) → d < 10 → e < 10 → (d ≡ e → ⊥) → x * 10 + d ≡ y * 10 + e → ⊥
@@ -129,107 +173,75 @@ ends_same x y d e q = by (eqb x y) refl
     by true k = let z : x ≡ y = eqb-true x y k in eq-eqb (x * 10 + d) (y * 10 + e) (omega arith)
     by false k = ne_eqb (x * 10 + d) (y * 10 + e) (λ m. let z : x ≡ y = omega arith in true≢false (sym (eq-eqb x y z) ∙ k))
 
-module _ (text : List ℕ) (p : ℕ) where
-  last_small : (k : ℕ) → DigitsAt text p k → last_of text p k < 10
-  last_small zero d = omega arith
-  last_small (suc k) d = ltb-true (digit_value (byte_at text (p + k))) 10 (d.all k (omega arith))
+-- what the digits spell but for the last i
+abbrev but_last : List ℕ → ℕ → ℕ
+but_last l i = number_at 10 l 0 (length l - i)
 
-  by_last : (k : ℕ) → number_at 10 text p k ≡ number_at 10 text p (k - 1) * 10 + last_of text p k
+none_left : (l : List ℕ) (i : ℕ) → length l ≤ i → but_last l i ≡ 0
+unfolding number_at
+none_left l i h = ap (number_at 10 l 0) (let z : length l - i ≡ 0 = omega arith in z)
+
+module _ (l : List ℕ) (digits : AllDigits l) where
+  -- what the first k of them spell
+  first_worth : (k : ℕ) → k ≤ length l → worth 0 l ≡ worth (number_at 10 l 0 k) (drop k l)
   unfolding number_at
-  by_last zero = refl
-  by_last (suc k) = ap (λ (m : ℕ). number_at 10 text p m * 10 + digit_value (byte_at text (p + k))) (let z : k ≡ suc k - 1 = omega arith in z)
+  first_worth zero h = refl
+  first_worth (suc k) h =
+      first_worth k (omega arith) ∙ worth_digit l k (omega arith) (digits k (omega arith)) (number_at 10 l 0 k)
+      ∙ ap (λ (i : ℕ). worth (number_at 10 l 0 k * 10 + digit_value (byte_at l i)) (drop (suc k) l)) (let z : k ≡ 0 + k = omega arith in z)
 
-  fewer_digits : (k m : ℕ) → DigitsAt text p k → m ≤ k → DigitsAt text p m
-  fewer_digits k m d h = let i = d.inside in record { inside = omega arith; all = λ j lt. d.all j (omega arith) }
+  all_worth : worth 0 l ≡ but_last l 0
+  unfolding worth
+  all_worth = first_worth (length l) (omega arith) ∙ ap (worth (number_at 10 l 0 (length l))) (drop_of_length-le l (let z : length l ≤ length l = omega arith in z)) ∙ ap (number_at 10 l 0) (let z : length l ≡ length l - 0 = omega arith in z)
 
-  pub last_none : (k : ℕ) → k ≡ 0 → 0 ≡ last_of text p k
-  last_none k e = ap (last_of text p) (sym e)
+  module _ (i : ℕ) where
+    by_end : (t : Bool) → ltb i (length l) ≡ t → (is_digit 10 (cond t (byte_at l (length l - 1 - i)) digit_zero) ≡ true) × (but_last l i ≡ but_last l (suc i) * 10 + digit_value (cond t (byte_at l (length l - 1 - i)) digit_zero))
+    unfolding number_at digit_value
+    by_end true e =
+        let inside : i < length l = ltb-true i (length l) e in
+        let one : length l - i ≡ suc (length l - suc i) = omega arith in
+        let here : 0 + (length l - suc i) ≡ length l - 1 - i = omega arith in
+        (digits (length l - 1 - i) (omega arith), ap (number_at 10 l 0) one ∙ ap (λ (j : ℕ). but_last l (suc i) * 10 + digit_value (byte_at l j)) here)
+    by_end false e =
+        let outside : length l ≤ i = ltb-false i (length l) e in
+        let none : length l - i ≡ 0 = omega arith in
+        let none_again : length l - suc i ≡ 0 = omega arith in
+        (refl, ap (number_at 10 l 0) none ∙ ap (λ (j : ℕ). number_at 10 l 0 j * 10 + 0) (sym none_again))
 
-  pub last_some : (k r : ℕ) → (k ≡ 0 → ⊥) → r ≡ digit_value (byte_at text (p + (k - 1))) → r ≡ last_of text p k
-  last_some zero r n e = absurd (n refl)
-  last_some (suc k) r n e = e ∙ ap (λ (m : ℕ). digit_value (byte_at text (p + m))) (let z : suc k - 1 ≡ k = omega arith in z)
+    end_digit : is_digit 10 (from_end l i) ≡ true
+    unfolding from_end
+    end_digit = (by_end (ltb i (length l)) refl).0
 
--- what the loop keeps: i and j digits are left, and whether they spell one number is whether all do
-pub record Comparing (text : List ℕ) (p k q l i j : ℕ) : Type 0 where
-  pub left : DigitsAt text p i
-  pub right : DigitsAt text q j
-  pub answer : eqb (number_at 10 text p k) (number_at 10 text q l) ≡ eqb (number_at 10 text p i) (number_at 10 text q j)
+    end_worth : but_last l i ≡ but_last l (suc i) * 10 + digit_value (from_end l i)
+    unfolding from_end
+    end_worth = (by_end (ltb i (length l)) refl).1
 
-module _ (text : List ℕ) (p k q l : ℕ) where
-  pub comparing_all : DigitsAt text p k → DigitsAt text q l → Comparing text p k q l k l
-  comparing_all a b = record { left = a; right = b; answer = refl }
+-- one byte stands for one digit
+digit_byte : (b c : ℕ) → is_digit 10 b ≡ true → is_digit 10 c ≡ true → digit_value b ≡ digit_value c → b ≡ c
+digit_byte b c e f same =
+    let x = decimal_digit b e in
+    let y = decimal_digit c f in
+    omega arith
 
-  module _ (i j x y : ℕ) (h : Comparing text p k q l i j) (at_left : x ≡ last_of text p i) (at_right : y ≡ last_of text q j) where
-    pub comparing_stops : (x ≡ y → ⊥) → false ≡ eqb (number_at 10 text p k) (number_at 10 text q l)
-    comparing_stops n =
-        sym (h.answer
-        ∙ ne_eqb (number_at 10 text p i) (number_at 10 text q j)
-        (λ e. ends (number_at 10 text p (i - 1)) (number_at 10 text q (j - 1)) (last_of text p i) (last_of text q j) (last_small text p i h.left) (last_small text q j h.right) (λ z. n (at_left ∙ z ∙ sym at_right)) (sym (by_last text p i) ∙ e ∙ by_last text q j)))
+module _ (a b : List ℕ) (in_a : AllDigits a) (in_b : AllDigits b) where
+  by_pair : (i : ℕ) (t : Bool) → eqb (from_end a i) (from_end b i) ≡ t → (t && eqb (but_last a (suc i)) (but_last b (suc i))) ≡ eqb (but_last a i) (but_last b i)
+  by_pair i true e =
+      sym ((λ z. eqb (end_worth a in_a i z) (end_worth b in_b i z))
+      ∙ ends_same (but_last a (suc i)) (but_last b (suc i)) (digit_value (from_end a i)) (digit_value (from_end b i)) (ap digit_value (eqb-true (from_end a i) (from_end b i) e)))
+  by_pair i false e =
+      let digit : (l : List ℕ) → AllDigits l → digit_value (from_end l i) < 10 = λ l d. ltb-true (digit_value (from_end l i)) 10 (end_digit l d i) in
+      sym ((λ z. eqb (end_worth a in_a i z) (end_worth b in_b i z))
+      ∙ ne_eqb (but_last a (suc i) * 10 + digit_value (from_end a i)) (but_last b (suc i) * 10 + digit_value (from_end b i))
+      (ends (but_last a (suc i)) (but_last b (suc i)) (digit_value (from_end a i)) (digit_value (from_end b i)) (digit a in_a) (digit b in_b)
+      (λ q. true≢false (sym (eq-eqb (from_end a i) (from_end b i) (digit_byte (from_end a i) (from_end b i) (end_digit a in_a i) (end_digit b in_b i) q)) ∙ e))))
 
-    pub comparing_less : (a b : ℕ) → x ≡ y → a ≡ i - 1 → b ≡ j - 1 → Comparing text p k q l a b
-    comparing_less a b e f g = record {
-      left = fewer_digits text p i a h.left (omega arith);
-      right = fewer_digits text q j b h.right (omega arith);
-      answer =
-          h.answer
-          ∙ (λ z. eqb (by_last text p i z) (by_last text q j z))
-          ∙ ends_same (number_at 10 text p (i - 1)) (number_at 10 text q (j - 1)) (last_of text p i) (last_of text q j) (sym at_left ∙ e ∙ at_right)
-          ∙ (λ z. eqb (number_at 10 text p (sym f z)) (number_at 10 text q (sym g z)));
-    }
+  -- d places from place i on
+  walk : (d i : ℕ) → length a ≤ i + d → length b ≤ i + d → list_all (λ j. eqb (from_end a j) (from_end b j)) (range_with_len i d) ≡ eqb (but_last a i) (but_last b i)
+  walk zero i ha hb = sym (λ z. eqb (none_left a i (let h : length a ≤ i = omega arith in h) z) (none_left b i (let h : length b ≤ i = omega arith in h) z))
+  walk (suc d) i ha hb =
+      ap (λ (t : Bool). eqb (from_end a i) (from_end b i) && t)
+      (walk d (i + 1) (omega arith) (omega arith) ∙ ap (λ (k : ℕ). eqb (but_last a k) (but_last b k)) (let z : i + 1 ≡ suc i = omega arith in z))
+      ∙ by_pair i (eqb (from_end a i) (from_end b i)) refl
 
-  pub comparing_done : (i j : ℕ) → Comparing text p k q l i j → i + j ≤ 0 → true ≡ eqb (number_at 10 text p k) (number_at 10 text q l)
-  unfolding number_at
-  comparing_done i j h e =
-      let a : i ≡ 0 = omega arith in
-      let b : j ≡ 0 = omega arith in
-      sym (h.answer ∙ (λ z. eqb (number_at 10 text p (a z)) (number_at 10 text q (b z))))
-
--- ---- what was found, beside the text that is left
-past_short : (l : List ℕ) → length (past l) ≤ length l
-unfolding past
-past_short [] = omega arith
-past_short (b ∷ l) = by (is_digit 10 b) (past_short l)
-  where
-    by : (t : Bool) → length (past l) ≤ length l → length (cond t (past l) (b ∷ l)) ≤ suc (length l)
-    by true h = omega arith
-    by false h = omega arith
-
-no_digits : (l : List ℕ) → past l ≡ l → is_digit 10 (byte_at l 0) ≡ false
-unfolding past digit_value
-no_digits [] e = refl
-no_digits (b ∷ l) e = by (is_digit 10 b) refl
-  where
-    by : (t : Bool) → is_digit 10 b ≡ t → is_digit 10 b ≡ false
-    by false h = h
-    by true h =
-        let q : past l ≡ b ∷ l = ap (λ (t : Bool). cond t (past l) (b ∷ l)) (sym h) ∙ e in
-        let k : length (past l) ≡ suc (length l) = ap length q in
-        absurd (omega (arith, past_short l))
-
-pub first_at : (text : List ℕ) (p : ℕ) → byte_at (drop p text) 0 ≡ byte_at text p
-first_at text p = get_or-drop p text 0 0 ∙ ap (byte_at text) (let z : p + 0 ≡ p = omega arith in z)
-
--- a byte that is not 0 stands inside the text
-pub byte_inside : (text : List ℕ) (p b : ℕ) → b ≡ byte_at text p → 0 < b → p < length text
-byte_inside text p b e h = by (ltb p (length text)) refl
-  where
-    by : (t : Bool) → ltb p (length text) ≡ t → p < length text
-    by true g = ltb-true p (length text) g
-    by false g = absurd (let z : 0 ≡ byte_at text p = past_end text p (ltb-false p (length text) g) in omega arith)
-
-module _ (most : ℕ) (text : List ℕ) (p : ℕ) (s : Scan) (found_Here : Found most text p s) where
-  pub found_none : s.digits ≡ 0 → is_digit 10 (byte_at (drop p text) 0) ≡ false
-  found_none e = no_digits (drop p text) (sym found_Here.rest ∙ ap (λ (i : ℕ). drop i text) (let z : p + s.digits ≡ p = omega arith in z))
-
-  pub found_some : (s.digits ≡ 0 → ⊥) → is_digit 10 (byte_at (drop p text) 0) ≡ true
-  found_some n = ap (is_digit 10) (first_at text p ∙ ap (byte_at text) (let z : p ≡ p + 0 = omega arith in z)) ∙ found_Here.digits.all 0 (positive s.digits n)
-    where
-      positive : (k : ℕ) → (k ≡ 0 → ⊥) → 0 < k
-      positive zero n = absurd (n refl)
-      positive (suc k) n = omega arith
-
-  pub found_next : byte_at (past (drop p text)) 0 ≡ byte_at text (p + s.digits)
-  found_next = ap (λ (l : List ℕ). byte_at l 0) (sym found_Here.rest) ∙ first_at text (p + s.digits)
-
-  pub found_after : drop 1 (past (drop p text)) ≡ drop (p + s.digits + 1) text
-  found_after = ap (drop 1) (sym found_Here.rest) ∙ drop-drop 1 (p + s.digits) text
+  pub same_number : (n : ℕ) → length a ≤ n → length b ≤ n → list_all (λ j. eqb (from_end a j) (from_end b j)) (range_with_len 0 n) ≡ eqb (worth 0 a) (worth 0 b)
+  same_number n ha hb = walk n 0 (omega arith) (omega arith) ∙ (λ z. eqb (sym (all_worth a in_a) z) (sym (all_worth b in_b) z))

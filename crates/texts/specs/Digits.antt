@@ -1,5 +1,5 @@
 -- Bytes and digits at a place of a text. Definitions only.
-use Rattle.std.specs.Prelude.{ℕ, zero, suc, ◌+◌, ◌-◌, ◌*◌, Bool, true, cond, not, ◌&&◌, List, leb, ltb, eqb, length, get_or}
+use Rattle.std.specs.Prelude.{ℕ, zero, suc, ◌+◌, ◌-◌, ◌*◌, Bool, true, cond, not, ◌&&◌, Option, Some, None, List, leb, ltb, eqb, length, get_or}
 use Rattle.texts.specs.declared.Scan.{Scan}
 use Rattle.texts.specs.Bytes.{newline, digit_zero, digit_nine, letter_a, letter_f}
 
@@ -27,6 +27,10 @@ digit_value b = cond (leb digit_zero b && leb b digit_nine) (b - digit_zero) (co
 -- b is a digit of the base, which is at most 16
 abbrev pub is_digit : ℕ → ℕ → Bool
 is_digit base b = ltb (digit_value b) base
+
+-- the value of a digit of the base
+abbrev pub digit_of : ℕ → ℕ → Option ℕ
+digit_of base b = cond (is_digit base b) (Some (digit_value b)) None
 
 -- how many of the d bytes from p on are digits, up to the first that is none
 unfoldable pub digit_run : ℕ → ℕ → List ℕ → ℕ → ℕ

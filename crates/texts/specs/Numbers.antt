@@ -1,15 +1,14 @@
 -- Numbers in decimal, read and written, and words in hexadecimal. Definitions only.
-use Rattle.std.specs.Prelude.{ℕ, zero, suc, ◌+◌, ◌/◌, ◌<◌, ◌≡◌, cond, ◌&&◌, List, leb, ltb, length, drop}
+use Rattle.std.specs.Prelude.{ℕ, zero, suc, ◌+◌, ◌/◌, ◌<◌, ◌≡◌, cond, ◌&&◌, Option, Some, None, List, leb, ltb, length, drop}
 use Rattle.io.specs.Digits.{last_digits}
 use Rattle.texts.specs.declared.Number.{Number}
-use Rattle.texts.specs.declared.Number.TheVariants.{Is, Not}
 use Rattle.texts.specs.Digits.{digit_run, number_at}
 
 -- one to so many decimal digits from p on, and no digit after them: what they spell, and the place after them
-unfoldable pub number_from : ℕ → List ℕ → ℕ → Number
+unfoldable pub number_from : ℕ → List ℕ → ℕ → Option Number
 number_from most text p =
     let k = digit_run 10 (most + 1) text p in
-    cond (ltb 0 k && leb k most) (Is (number_at 10 text p k) (p + k)) Not
+    cond (ltb 0 k && leb k most) (Some (record { value = number_at 10 text p k; end = p + k })) None
 
 -- how many decimal digits n has, up to d + 1
 unfoldable pub places : ℕ → ℕ → ℕ

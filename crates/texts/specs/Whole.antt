@@ -1,7 +1,8 @@
 -- Whole numbers at the start of a text, by their value, however long. Definitions only.
-use Rattle.std.specs.Prelude.{ℕ, zero, suc, ◌+◌, ◌*◌, ◌≤◌, ◌<◌, ◌≡◌, true, cond, List, [], ◌∷◌, length, drop}
-use Rattle.texts.specs.declared.Scan.{Scan}
-use Rattle.texts.specs.Digits.{byte_at, is_digit, digit_value, number_at}
+use Rattle.std.specs.Prelude.{ℕ, ◌+◌, ◌-◌, ◌*◌, ◌≤◌, ◌<◌, ◌≡◌, true, cond, List, [], ◌∷◌, ltb, length}
+use Rattle.texts.specs.declared.whole.Whole.{Whole}
+use Rattle.texts.specs.Bytes.{digit_zero}
+use Rattle.texts.specs.Digits.{byte_at, is_digit, digit_value}
 
 -- what v and the digits after it spell
 unfoldable pub worth : ℕ → List ℕ → ℕ
@@ -13,15 +14,18 @@ unfoldable pub past : List ℕ → List ℕ
 past [] = []
 past (b ∷ l) = cond (is_digit 10 b) (past l) (b ∷ l)
 
--- k digits stand from p on
-pub record DigitsAt (text : List ℕ) (p k : ℕ) : Type 0 where
-  pub inside : p + k ≤ length text
-  pub all : (j : ℕ) → j < k → is_digit 10 (byte_at text (p + j)) ≡ true
+-- the digits that a text begins with
+unfoldable pub front : List ℕ → List ℕ
+front [] = []
+front (b ∷ l) = cond (is_digit 10 b) (b ∷ front l) []
 
--- the value of the last of k digits from p on; 0 where there is none
-abbrev pub last_of : List ℕ → ℕ → ℕ → ℕ
-last_of text p zero = 0
-last_of text p (suc k) = digit_value (byte_at text (p + k))
+-- every byte is a digit
+abbrev pub AllDigits : List ℕ → Type 0
+AllDigits l = (j : ℕ) → j < length l → is_digit 10 (byte_at l j) ≡ true
+
+-- the byte that stands i places before the last; a zero in front of the first
+unfoldable pub from_end : List ℕ → ℕ → ℕ
+from_end l i = cond (ltb i (length l)) (byte_at l (length l - 1 - i)) digit_zero
 
 -- v stands for the number w: it is w up to the limit, and above the limit where w is
 pub record Capped (most v w : ℕ) : Type 0 where
@@ -34,9 +38,8 @@ pub record Grown (most v digit r : ℕ) : Type 0 where
   pub more : v ≤ most → r ≡ v * 10 + digit
   pub stays : most < v → r ≡ v
 
--- what the reader of digits finds from p on: all of them, and what stands for their number
-pub record Found (most : ℕ) (text : List ℕ) (p : ℕ) (s : Scan) : Type 0 where
-  pub value : Capped most s.value (worth 0 (drop p text))
-  pub rest : drop (p + s.digits) text ≡ past (drop p text)
-  pub spelled : worth 0 (drop p text) ≡ number_at 10 text p s.digits
-  pub digits : DigitsAt text p s.digits
+-- what the reader of digits finds: all of them, the text after them, and what stands for their number
+pub record Found (most : ℕ) (text : List ℕ) (w : Whole) : Type 0 where
+  pub value : Capped most w.value (worth 0 text)
+  pub digits : w.digits.now ≡ front text
+  pub rest : w.rest.now ≡ past text

@@ -16,7 +16,7 @@ pub struct Scan {
 
 // A decimal number, and the place after it.
 #[derive(Clone, Copy)]
-pub enum Number {
-    Is { value: usize, end: usize },
-    Not,
+pub struct Number {
+    pub value: usize,
+    pub end: usize,
 }

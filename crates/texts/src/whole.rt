@@ -1,9 +1,31 @@
 // Whole numbers however long, by their value: up to a limit as it is, above it no more than that it is above.
-ghost use Rattle.std.specs.Prelude.{◌≡◌, ◌+◌, ◌-◌, ◌*◌, ◌^◌, ◌≤◌, ◌<◌, eqb, length};
-ghost use Rattle.texts.specs.Digits.{number_at};
-ghost use Rattle.texts.specs.Whole.{last_of, Grown, Found, DigitsAt};
+ghost use Rattle.std.specs.Prelude.{◌≡◌, ◌+◌, ◌*◌, ◌^◌, ◌≤◌, ◌<◌, not, ◌&&◌, true, false, eqb, length, drop, MatchOption};
+ghost use Rattle.texts.specs.Digits.{byte_at};
+ghost use Rattle.texts.specs.Whole as Whole·specs;
+ghost use Rattle.texts.specs.Whole.{worth, Grown, Found, AllDigits};
 
-use super::{Scan, read};
+use super::read;
+
+// The digits that a text begins with, the text after them, and what stands for their number.
+#[derive(Clone, Copy)]
+pub struct Whole<'a> {
+    pub value: u64,
+    pub digits: &'a [u8],
+    pub rest: &'a [u8],
+}
+
+impl<'a> Whole<'a> {
+    // The text after the byte `end`, where that stands after one digit or more.
+    pub fn ended_by(self, end: u8) -> Option<&'a [u8]>
+        requires { 0 < end }
+        ensures { let ended = not (eqb (length self.entry.digits.now) 0) && eqb (byte_at self.entry.rest.now 0) end in MatchOption result (ended ≡ false) (λ rest. (ended ≡ true) × (rest.now ≡ drop 1 self.entry.rest.now)) }
+    {
+        match self.rest.split_first() {
+            Some((b, rest)) if *b == end && !self.digits.is_empty() => Some(rest),
+            _ => None,
+        }
+    }
+}
 
 // One digit more, unless v is above the limit already.
 fn grown(v: u64, digit: u64, most: u64) -> u64
@@ -16,60 +38,44 @@ fn grown(v: u64, digit: u64, most: u64) -> u64
     v
 }
 
-// The decimal digits from p on, all of them.
-pub fn scan(text: &[u8], p: usize, most: u64) -> Scan
-    requires { (p ≤ length text.now) × (most < 2 ^ 60) }
-    ensures { Found most text.now p result }
+// The decimal digits that a text begins with, all of them.
+pub fn scan(text: &[u8], most: u64) -> Whole<'_>
+    requires { most < 2 ^ 60 }
+    ensures { Found most text.now result }
 {
-    let mut value = 0u64;
-    let mut k = 0usize;
-    while k < text.len() - p {
-        let digit = read::digit_value(text[p + k]);
-        if 10 <= digit {
-            return Scan { value, digits: k };
-        }
+    let mut value = 0;
+    for (k, b) in text.iter().enumerate() {
+        let Some(digit) = read::digit(10, *b) else {
+            return Whole {
+                value,
+                digits: &text[..k],
+                rest: &text[k..],
+            };
+        };
         value = grown(value, digit, most);
-        k += 1;
     }
-    Scan { value, digits: k }
+    Whole {
+        value,
+        digits: text,
+        rest: &[],
+    }
 }
 
-// The value of the last of k digits from p on; 0 where there is none.
-fn last(text: &[u8], p: usize, k: usize) -> u64
-    requires { p + k ≤ length text.now }
-    ensures { result ≡ last_of text.now p k }
+// The digit that stands i places before the last; a zero in front of the first.
+#[tactic(auto, unfolding(crate::specs::Whole::from_end))]
+fn from_end(digits: &[u8], i: usize) -> u8
+    ensures { result ≡ Whole·specs.from_end digits.now i }
 {
-    if k == 0 {
-        return 0;
+    if i < digits.len() {
+        return digits[digits.len() - 1 - i];
     }
-    read::digit_value(text[p + (k - 1)])
+    b'0'
 }
 
-// One less, if there is one.
-fn less(k: usize) -> usize
-    ensures { result ≡ k - 1 }
+// The digits of a and those of b spell one number: compared from their ends, zeros in front where one is shorter.
+pub fn same(a: &[u8], b: &[u8]) -> bool
+    requires { AllDigits a.now × AllDigits b.now }
+    ensures { result ≡ eqb (worth 0 a.now) (worth 0 b.now) }
 {
-    if k == 0 {
-        return 0;
-    }
-    k - 1
-}
-
-// The k digits from p on and the l digits from q on spell one number: compared from their ends, zeros in front where one is shorter.
-pub fn same(text: &[u8], p: usize, k: usize, q: usize, l: usize) -> bool
-    requires text_len_bound { length text.now < 2 ^ 63 }
-    requires digits_at { DigitsAt text.now p k }
-    requires digits_at_2 { DigitsAt text.now q l }
-    ensures { result ≡ eqb (number_at 10 text.now p k) (number_at 10 text.now q l) }
-{
-    let mut i = k;
-    let mut j = l;
-    while 0 < i + j {
-        if last(text, p, i) != last(text, q, j) {
-            return false;
-        }
-        i = less(i);
-        j = less(j);
-    }
-    true
+    (0..a.len().max(b.len())).all(|i| from_end(a, i) == from_end(b, i))
 }

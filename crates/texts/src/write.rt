@@ -1,42 +1,20 @@
-// Writing: each function puts a text after the first `at` bytes of a lent buffer and answers how many are then written. A full buffer takes no more.
+// Writing: a lent buffer takes one text after the other, as far as they fit.
 ghost use Rattle.std.specs.Prelude.{◌≡◌, [], ◌∷◌, length};
-ghost use Rattle.texts.specs.Page.{page, written, Fitting};
+ghost use Rattle.texts.specs.Page.{page, page_of, Puts, Fitting};
 ghost use Rattle.texts.specs.Numbers.{decimal_text, hex_text, Spelled};
 
-pub fn byte(out: &mut [u8], at: usize, b: u8) -> usize
-    ensures { page out.new result ≡ written (page out.old at) (b ∷ []) }
-{
-    if at < out.len() {
-        out[at] = b;
-        return at + 1;
-    }
-    at
+// A lent buffer, and how many of its bytes are written: its page (specs/Page.antt). A full buffer takes no more.
+#[derive(Drop)]
+pub struct Writer<'a> {
+    out: &'a mut [u8],
+    pub used: usize,
 }
 
 // How many of count bytes fit after the first `at` of a buffer of so many.
 fn fitting(size: usize, at: usize, count: usize) -> usize
     ensures { Fitting size at count result }
 {
-    if size <= at {
-        return 0;
-    }
-    if size - at < count {
-        return size - at;
-    }
-    count
-}
-
-// One test for all of the text, and none for each byte.
-pub fn bytes(out: &mut [u8], at: usize, text: &[u8]) -> usize
-    ensures { page out.new result ≡ written (page out.old at) text.now }
-{
-    let count = fitting(out.len(), at, text.len());
-    let mut i = 0;
-    while i < count {
-        out[at + i] = text[i];
-        i += 1;
-    }
-    at + count
+    size.saturating_sub(at).min(count)
 }
 
 // The decimal digits of n at the end of the array, the last first, and where they begin. By one loop: io::decimal divides once more, to count them first.
@@ -56,20 +34,51 @@ fn spell(n: u64, digits: &mut [u8; 20]) -> usize
     start
 }
 
-// In decimal, with no zero in front.
-pub fn number(out: &mut [u8], at: usize, n: u64) -> usize
-    ensures { page out.new result ≡ written (page out.old at) (decimal_text n) }
-{
-    let mut digits = [0u8; 20];
-    let start = spell(n, &mut digits);
-    bytes(out, at, &digits[start..])
-}
+impl<'a> Writer<'a> {
+    // Nothing is written yet.
+    pub fn new(out: &'a mut [u8]) -> Writer<'a>
+        ensures lent { result.out.ghost_name ≡ out.entry.ghost_name }
+        ensures none { page_of result ≡ page out.old 0 }
+    {
+        Writer { out, used: 0 }
+    }
 
-// A word in 16 hex digits.
-pub fn word(out: &mut [u8], at: usize, w: u64) -> usize
-    ensures { page out.new result ≡ written (page out.old at) (hex_text w) }
-{
-    let mut digits = [0u8; 16];
-    let count = io::hex(w, 16, &mut digits);
-    bytes(out, at, &digits[..count])
+    pub fn byte(&mut self, b: u8)
+        ensures { Puts self.old self.new (b ∷ []) }
+    {
+        if self.used < self.out.len() {
+            self.out[self.used] = b;
+            self.used += 1;
+        }
+    }
+
+    // One test for all of the text, and none for each byte.
+    pub fn bytes(&mut self, text: &[u8])
+        ensures { Puts self.old self.new text.now }
+    {
+        let count = fitting(self.out.len(), self.used, text.len());
+        let end = self.used + count;
+        if self.used < end {
+            self.out[self.used..end].copy_from_slice(&text[..count]);
+            self.used = end;
+        }
+    }
+
+    // In decimal, with no zero in front.
+    pub fn number(&mut self, n: u64)
+        ensures { Puts self.old self.new (decimal_text n) }
+    {
+        let mut digits = [0u8; 20];
+        let start = spell(n, &mut digits);
+        self.bytes(&digits[start..]);
+    }
+
+    // A word in 16 hex digits.
+    pub fn word(&mut self, w: u64)
+        ensures { Puts self.old self.new (hex_text w) }
+    {
+        let mut digits = [0u8; 16];
+        let count = io::hex(w, 16, &mut digits);
+        self.bytes(&digits[..count]);
+    }
 }

@@ -1,16 +1,10 @@
 -- What the head tells: a refusal, or the entries from there on.
-use borrow.Author.Rules.{rules}
-use Rattle.market_reader.proofs.Answering.{opens, read_opened_lem, read_refused}
+use Rattle.std.proofs.lemmas.Result.{err_from_is_err_and}
+use Rattle.market_reader.proofs.Answering.{read_refused, read_known}
 use Rattle.market_reader.proofs.read_wide.Goals as goal
 
--- the head was told: its size and its place are good
-pub body-requires : goal.body-requires
-body-requires c =
-    let o = opens _ _ c.head.ensures _ _ _ c.in-Ready.is in
-    (o.inside, o.few, c.requires.0, c.requires.1)
+pub returns-in_err-head : goal.returns-in_err-head
+returns-in_err-head c = let p = err_from_is_err_and c.from_residual.result c.from_residual.ensures.1 in rw (p.1, p.2) (read_refused _ _ _ _ c.in_err-head.ensures)
 
-pub returns-in-Ready : goal.returns-in-Ready
-returns-in-Ready c = search (rules, read_opened_lem)
-
-pub returns-in-Refused : goal.returns-in-Refused
-returns-in-Refused c = search (rules, read_refused)
+pub returns : goal.returns
+returns c = read_known _ _ _ _ _ _ _ c.in_ok-head.ensures c.body.ensures

@@ -1,10 +1,7 @@
 -- The loop keeps: what has come is marked, and what is left decides (Walk).
-use Prim.Native.Nat.{◌-◌}
+use lib.ListN.{length}
 use Rattle.orders.proofs.Walk.{Marking}
 use Rattle.orders.proofs.is_order.Given as goal
 
-abbrev pub invariant-loop-i : goal.invariant-loop-i
-invariant-loop-i l = Marking l.n l.order l.m l.i
-
-abbrev pub decreases-loop-i : goal.decreases-loop-i
-decreases-loop-i l = l.n - l.i
+abbrev pub invariant-loop-x : goal.invariant-loop-x
+invariant-loop-x l = Marking (length l.order) l.order l.marks l.x-index

@@ -34,18 +34,10 @@ all n l a k s h =
 pub loop-k-init : goal.loop-k-init
 loop-k-init c = record { long = refl; filled = λ j h. absurd (omega arith); rest = λ j h. refl }
 
--- one float fewer is left
-pub loop-k-smaller : goal.loop-k-smaller
-loop-k-smaller c = omega (arith, c.loop-k.invariant.long)
-
 -- a store changes one float alone
 pub loop-k-preserved : goal.loop-k-preserved
 loop-k-preserved c = turn _ _ _ _ c.loop-k.invariant _ (search rules) c.spoiled.ensures
 
--- and no length
-pub shape_of-a : goal.shape_of-a
-shape_of-a c = c.loop-k.invariant.long
-
 -- all is passed
 pub returns : goal.returns
-returns c = all _ _ _ _ c.loop-k.invariant c.loop-k-test.false
+returns c = all _ _ _ _ c.loop-k.invariant (search rules)

@@ -1,5 +1,5 @@
 -- The loop keeps: what was passed is spoiled, what is to come is as it was (Spoiling).
-use Prim.Native.Nat.{ℕ, ◌-◌, ◌≤◌}
+use Prim.Native.Nat.{ℕ, ◌≤◌}
 use mathlib.Core.Path.{◌≡◌}
 use mathlib.Core.List.{List}
 use lib.ListN.{length, get_or}
@@ -15,6 +15,3 @@ pub record Spoiling (n : ℕ) (l a : List Float) (k : ℕ) : Type 0 where
 
 abbrev pub invariant-loop-k : goal.invariant-loop-k
 invariant-loop-k l = Spoiling l.n l.initial.a l.a l.k
-
-abbrev pub decreases-loop-k : goal.decreases-loop-k
-decreases-loop-k l = length l.initial.a - l.k

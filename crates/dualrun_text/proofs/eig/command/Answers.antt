@@ -1,13 +1,13 @@
 -- A refusal of the first line is printed; else n is small enough for the buffers.
-use borrow.Author.Rules.{rules}
+use Rattle.std.proofs.Common.{rules}
 use Rattle.dualrun_text.proofs.Commands.{eig_fits, eig_line_refused, eig_goes_on}
 use Rattle.dualrun_text.proofs.eig.command.Goals as goal
 
-pub returns-then-number-ne0 : goal.returns-then-number-ne0
-returns-then-number-ne0 c = search (rules, eig_line_refused)
+pub returns-in-Err : goal.returns-in-Err
+returns-in-Err c = eig_line_refused _ _ _ _ _ _ c.in-Err.refusal _ c.number.ensures c.in-Err.ensures c.pair.ensures
 
 pub in_room-requires : goal.in_room-requires
 in_room-requires c = search (rules, eig_fits)
 
 pub returns : goal.returns
-returns c = search (rules, eig_goes_on)
+returns c = eig_goes_on _ _ _ _ _ _ c.in_default.ensures c.in_room.ensures

@@ -1,5 +1,5 @@
 -- A refusal by its number, else the three parts one after the other.
-use borrow.Author.Rules.{rules}
+use Rattle.std.proofs.Common.{rules}
 use Rattle.dualrun_text.proofs.Commands.{eig_refused, eig_done}
 use Rattle.dualrun_text.proofs.eig.lines.Goals as goal
 

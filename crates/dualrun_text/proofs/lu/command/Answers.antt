@@ -1,13 +1,13 @@
 -- A refusal of the first line is printed; else n is small enough for the buffers.
-use borrow.Author.Rules.{rules}
+use Rattle.std.proofs.Common.{rules}
 use Rattle.dualrun_text.proofs.Commands.{lu_fits, lu_line_refused, lu_goes_on}
 use Rattle.dualrun_text.proofs.lu.command.Goals as goal
 
-pub returns-then-number-ne0 : goal.returns-then-number-ne0
-returns-then-number-ne0 c = search (rules, lu_line_refused)
+pub returns-in-Err : goal.returns-in-Err
+returns-in-Err c = lu_line_refused _ _ _ _ _ c.in-Err.refusal _ c.number.ensures c.in-Err.ensures c.pair.ensures
 
 pub in_room-requires : goal.in_room-requires
 in_room-requires c = search (rules, lu_fits)
 
 pub returns : goal.returns
-returns c = search (rules, lu_goes_on)
+returns c = lu_goes_on _ _ _ _ _ c.in_default.ensures c.in_room.ensures

@@ -1,5 +1,5 @@
--- A refusal by its number and column, else the three parts one after the other.
-use borrow.Author.Rules.{rules}
+-- A refusal by its number, else the three parts one after the other.
+use Rattle.std.proofs.Common.{rules}
 use Rattle.dualrun_text.proofs.Commands.{lu_refused, lu_done}
 use Rattle.dualrun_text.proofs.lu.lines.Goals as goal
 

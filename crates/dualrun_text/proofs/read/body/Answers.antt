@@ -1,27 +1,15 @@
 -- The loop keeps: the words below i are good, and their floats stand in the matrix (Reading).
-use borrow.Author.Rules.{rules}
-use Rattle.dualrun_text.proofs.Words.{never, reading_none, reading_more, body_other_length, body_other_word, body_good, body_floats}
+use Rattle.std.proofs.Common.{refl, sym, rules}
+use Rattle.dualrun_text.proofs.Words.{body_other_length, body_other_word, body_good, body_floats}
 use Rattle.dualrun_text.proofs.read.body.Goals as goal
 
 pub returns-then-text-start : goal.returns-then-text-start
-returns-then-text-start c = search (rules, body_other_length, never)
-
-pub loop-i-init : goal.loop-i-init
-loop-i-init c = reading_none _ _ _
-
--- the matrix is as long as it was: a store changes no length
-pub shape_of-matrix-in_default : goal.shape_of-matrix-in_default
-shape_of-matrix-in_default c = let h = c.loop-i.invariant.size in search rules
+returns-then-text-start c = (sym (body_other_length _ _ _ c.if-text-start.true), refl)
 
 pub returns-in_default : goal.returns-in_default
-returns-in_default c = search (rules, body_other_word, never)
-
-pub loop-i-preserved : goal.loop-i-preserved
-loop-i-preserved c = search (rules, reading_more)
-
--- the same at the end of the loop
-pub shape_of-matrix : goal.shape_of-matrix
-shape_of-matrix c = let h = c.loop-i.invariant.size in search rules
+returns-in_default c = (sym (body_other_word _ _ _ _ _ c.loop-i.invariant c.word.result (search rules) c.word.ensures c.in_default.is), refl)
 
 pub returns : goal.returns
-returns c = search (rules, body_good, body_floats)
+returns c =
+    let reading = c.loop-i.invariant in
+    (sym (body_good _ _ _ _ _ reading (search rules) (search rules)), body_floats _ _ _ _ _ reading (search rules))

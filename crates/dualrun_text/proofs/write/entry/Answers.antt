@@ -1,5 +1,5 @@
 -- The first entry has no space before it, a later one has.
-use borrow.Author.Rules.{rules}
+use Rattle.std.proofs.Common.{rules}
 use Rattle.dualrun_text.proofs.Lines.{first_entry, later_entry}
 use Rattle.dualrun_text.proofs.write.entry.Goals as goal
 

@@ -1,7 +1,8 @@
 -- The entries, then the newline.
-use borrow.Author.Rules.{rules}
-use Rattle.dualrun_text.proofs.Lines.{order_line_lem}
+use Rattle.texts.proofs.Page.{puts_then}
+use Rattle.dualrun_text.specs.Lines.{order_line}
 use Rattle.dualrun_text.proofs.write.order.Goals as goal
 
 pub returns : goal.returns
-returns c = search (rules, order_line_lem)
+unfolding order_line
+returns c = puts_then _ _ c.entries.ensures c.byte.ensures

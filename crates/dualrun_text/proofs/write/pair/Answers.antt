@@ -1,7 +1,8 @@
 -- Four parts, one after the other.
-use borrow.Author.Rules.{rules}
-use Rattle.dualrun_text.proofs.Lines.{pair_line_lem}
+use Rattle.texts.proofs.Page.{puts_then}
+use Rattle.dualrun_text.specs.Lines.{pair_line}
 use Rattle.dualrun_text.proofs.write.pair.Goals as goal
 
 pub returns : goal.returns
-returns c = search (rules, pair_line_lem)
+unfolding pair_line
+returns c = puts_then _ _ (puts_then _ _ (puts_then _ _ c.number.ensures c.byte.ensures) c.number-2.ensures) c.byte-2.ensures

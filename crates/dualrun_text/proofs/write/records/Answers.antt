@@ -1,22 +1,21 @@
--- The loop keeps: the first k records are written (Pieces).
-use borrow.Author.Rules.{rules}
-use mathlib.Core.Path.{refl}
-use Rattle.texts.proofs.Page.{pieces_none, pieces_more, pieces_length, pieces_all}
-use Rattle.dualrun_text.specs.Lines.{record_lines}
-use Rattle.dualrun_text.proofs.Lines.{records_more}
+-- The loop keeps: the records passed are written (Listing).
+use Rattle.std.proofs.Common.{◌∙◌, ap}
+use Rattle.std.proofs.lemmas.List.{length_push}
+use Rattle.std.specs.Slice.Iter.{chunks_exact_size, chunks_exact_rest}
+use Rattle.dualrun_text.proofs.Lines.{listing_none, listing_more, listing_all}
 use Rattle.dualrun_text.proofs.write.records.Goals as goal
 
--- nothing is written yet
-pub loop-k-init : goal.loop-k-init
-unfolding record_lines
-loop-k-init c = pieces_none _ _ _ _ refl
+pub loop-parts-init : goal.loop-parts-init
+loop-parts-init c =
+    let begun = c.into_iter-parts-iterator.ensures.into_iter_gives in
+    let items = c.chunks_exact-parts-items.ensures in
+    listing_none _ _ _ (ap chunks_exact_size begun ∙ items.size) (ap chunks_exact_rest begun ∙ items.rest)
 
--- record number k more: its two floats lie within
-pub loop-k-preserved : goal.loop-k-preserved
-loop-k-preserved c = pieces_more _ _ _ _ _ _ c.loop-k.invariant _ _ _ c.record-end.ensures (search rules) (records_more _ c.args.count _ (search rules) (search rules))
-
-pub shape_of-out : goal.shape_of-out
-shape_of-out c = search (rules, pieces_length)
+-- a record more: the next two floats
+pub loop-parts-preserved : goal.loop-parts-preserved
+loop-parts-preserved c =
+    let turn = c.in-Some.ensures.steps in
+    listing_more _ _ _ _ _ c.loop-parts.invariant _ _ _ _ (length_push c.loop-parts.yielded c.in-Some.parts) turn.0 turn.1.0 turn.1.1 c.record.ensures
 
 pub returns : goal.returns
-returns c = search (rules, pieces_all)
+returns c = listing_all _ _ _ _ _ c.loop-parts.invariant c.in-None.ensures.steps.1.0

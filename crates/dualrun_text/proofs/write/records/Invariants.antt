@@ -1,12 +1,7 @@
--- The loop keeps: the first k records are written (Pieces).
-use Prim.Native.Nat.{◌-◌}
-use Rattle.texts.specs.Page.{page}
-use Rattle.texts.proofs.Page.{Pieces}
-use Rattle.dualrun_text.specs.Lines.{record_lines}
+-- The loop keeps: the records passed are written (Listing).
+use Rattle.dualrun_text.proofs.Lines.{Listing}
+use Rattle.std.proofs.Common.{length}
 use Rattle.dualrun_text.proofs.write.records.Given as goal
 
-abbrev pub invariant-loop-k : goal.invariant-loop-k
-invariant-loop-k l = Pieces (record_lines l.floats) (l.count) (page l.initial.out l.at) l.out l.end l.k
-
-abbrev pub decreases-loop-k : goal.decreases-loop-k
-decreases-loop-k l = l.count - l.k
+abbrev pub invariant-loop-parts : goal.invariant-loop-parts
+invariant-loop-parts l = Listing l.floats l.initial.page l.page l.parts-iterator (length l.yielded)

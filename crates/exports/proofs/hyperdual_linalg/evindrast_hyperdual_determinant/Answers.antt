@@ -3,8 +3,8 @@ use borrow.Author.Rules.{rules}
 use Rattle.exports.proofs.Crossed.{hyper_determinant_written, hyper_determinant_refused}
 use Rattle.exports.proofs.hyperdual_linalg.evindrast_hyperdual_determinant.Goals as goal
 
-pub returns-in-Value : goal.returns-in-Value
-returns-in-Value c = search (rules, hyper_determinant_written)
+pub returns-in-Ok : goal.returns-in-Ok
+returns-in-Ok c = search (rules, hyper_determinant_written)
 
-pub returns-in-Refused : goal.returns-in-Refused
-returns-in-Refused c = search (rules, hyper_determinant_refused)
+pub returns-in-Err : goal.returns-in-Err
+returns-in-Err c = search (rules, hyper_determinant_refused)

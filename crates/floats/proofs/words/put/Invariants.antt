@@ -1,5 +1,5 @@
 -- The loop keeps: the words passed are those of the parts; at its end all are.
-use Prim.Native.Nat.{ℕ, ◌-◌}
+use Prim.Native.Nat.{ℕ}
 use mathlib.Core.List.{List}
 use lib.ListN.{length, get_or}
 use lib.Ieee.{Float, binary64, nan, to_bits}
@@ -12,6 +12,3 @@ word_at parts k = to_bits binary64 (get_or parts k nan)
 
 abbrev pub invariant-loop-i : goal.invariant-loop-i
 invariant-loop-i l = Filling 0 (word_at l.parts) (length l.initial.out) l.out l.i
-
-abbrev pub decreases-loop-i : goal.decreases-loop-i
-decreases-loop-i l = length l.initial.out - l.i

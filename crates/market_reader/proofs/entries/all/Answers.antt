@@ -1,19 +1,17 @@
--- The loop keeps: i entries stand in the lent numbers, and the others are read from `at` on (Reading).
-use borrow.Author.Rules.{rules}
-use Rattle.market_reader.proofs.EntryLines.{reading_none, reading_more, reading_faults, reading_left, reading_all}
+-- The loop keeps: the entries so far stand in the lent numbers, and the others are still to be read (Reading).
+use Rattle.std.proofs.Common.{rules}
+use Rattle.std.proofs.lemmas.Result.{err_from_is_err_and}
+use Rattle.market_reader.proofs.EntryLines.{reading_more, reading_faults, reading_left, reading_all}
 use Rattle.market_reader.proofs.entries.all.Goals as goal
 
-pub loop-i-init : goal.loop-i-init
-loop-i-init c = search (rules, reading_none)
+pub returns-in_err-e : goal.returns-in_err-e
+returns-in_err-e c = let p = err_from_is_err_and c.from_residual.result c.from_residual.ensures.1 in rw (p.1, p.2) (search (rules, reading_faults))
 
-pub returns-in_default : goal.returns-in_default
-returns-in_default c = search (rules, reading_faults)
+pub loop-x-preserved : goal.loop-x-preserved
+loop-x-preserved c = search (rules, reading_more)
 
-pub loop-i-preserved : goal.loop-i-preserved
-loop-i-preserved c = search (rules, reading_more)
-
-pub returns-then-at-text : goal.returns-then-at-text
-returns-then-at-text c = search (rules, reading_left)
+pub returns-then-not-is_empty : goal.returns-then-not-is_empty
+returns-then-not-is_empty c = search (rules, reading_left)
 
 pub returns : goal.returns
 returns c = search (rules, reading_all)

@@ -1,11 +1,7 @@
--- The loop keeps: i entries stand in the lent numbers, and the others are read from `at` on (Reading).
-use Prim.Native.Nat.{◌-◌}
-use lib.ListN.{length}
+-- The loop keeps: the entries so far stand in the lent numbers, and the others are still to be read (Reading).
+use Rattle.std.proofs.Common.{length}
 use Rattle.market_reader.proofs.EntryLines.{Reading}
 use Rattle.market_reader.proofs.entries.all.Given as goal
 
-abbrev pub invariant-loop-i : goal.invariant-loop-i
-invariant-loop-i l = Reading l.text l.p (length l.initial.numbers) l.numbers l.at l.i
-
-abbrev pub decreases-loop-i : goal.decreases-loop-i
-decreases-loop-i l = length l.initial.numbers - l.i
+abbrev pub invariant-loop-x : goal.invariant-loop-x
+invariant-loop-x l = Reading l.text (length l.initial.numbers) l.numbers l.rest l.x-index

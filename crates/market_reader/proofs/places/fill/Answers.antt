@@ -1,16 +1,10 @@
--- The loop keeps: the records of the rows above r stand, zeros after them (PlacedUpTo).
-use borrow.Author.Rules.{rules}
-use Rattle.market_reader.proofs.Placing.{placed_none, next_row, placed_all, square_kept}
+-- The loops keep: the records of the rows above r, and c of row r, stand, and zeros after them (PlacedUpTo).
+use Rattle.std.proofs.Common.{rules}
+use Rattle.market_reader.proofs.Placing.{placed_more, placed_all}
 use Rattle.market_reader.proofs.places.fill.Goals as goal
 
-pub loop-r-init : goal.loop-r-init
-loop-r-init c = search (rules, placed_none)
-
-pub fill_row-requires : goal.fill_row-requires
-fill_row-requires c = search (rules, square_kept)
-
-pub loop-r-preserved : goal.loop-r-preserved
-loop-r-preserved c = search (rules, next_row)
+pub loop-c-preserved : goal.loop-c-preserved
+loop-c-preserved c = search (rules, placed_more)
 
 pub returns : goal.returns
 returns c = search (rules, placed_all)

@@ -1,10 +1,8 @@
 -- A minus, or nothing.
-use Rattle.std.proofs.Common.{rules}
-use Rattle.market_writer.proofs.Pieces.{minus_one_lem, minus_none}
+use Rattle.std.proofs.Common.{sym, ap}
+use Rattle.texts.proofs.Page.{puts_none, puts_as}
+use Rattle.market.specs.Format.{sign}
 use Rattle.market_writer.proofs.lines.minus.Goals as goal
 
-pub returns-then-x : goal.returns-then-x
-returns-then-x c = search (rules, minus_one_lem)
-
-pub returns : goal.returns
-returns c = search (rules, minus_none)
+pub returns-else-x : goal.returns-else-x
+returns-else-x c = puts_as puts_none (ap sign (sym c.if-x.false))

@@ -1,31 +1,27 @@
--- Five ways out, in the order of the definition.
-use Rattle.std.proofs.Common.{T, sym, subst, rules}
+-- Four ways out, in the order of the definition.
+use Rattle.std.proofs.Common.{T, sym, subst, rules, ◌∙◌}
 use lib.Ieee.{of_bits, neg, ne}
 use borrow.Author.Tests.{not-true, not-false}
-use Rattle.market_writer.proofs.WholeParts.{in_float_lem, whole_below, whole_above, whole_large, whole_broken, whole_is}
+use Rattle.texts.proofs.Every.{both_true}
+use Rattle.market_writer.proofs.WholeParts.{whole_out, whole_large, whole_broken, whole_is}
 use Rattle.market_writer.proofs.numbers.whole.Goals as goal
+use Rattle.market_writer.proofs.numbers.whole.Goals.{then-v-gt-LARGEST_WHOLE-via-then-v-gt-LARGEST_WHOLE, then-v-gt-LARGEST_WHOLE-via-else-v-gt-LARGEST_WHOLE+then-v-m}
 
-pub returns-then-not-m : goal.returns-then-not-m
-returns-then-not-m c = search (rules, whole_below, not-true)
+pub returns-then-not-in_range : goal.returns-then-not-in_range
+returns-then-not-in_range c = whole_out _ _ c.magnitude-m.ensures _ c.in_range.ensures c.if-not-in_range.true
 
-pub returns-then-not-m-2 : goal.returns-then-not-m-2
-returns-then-not-m-2 c = search (rules, whole_above, not-true, not-false)
-
--- the two tests say that the whole part fits
+-- the range is where the whole part fits
 pub truncating_f64_to_u64-v-requires : goal.truncating_f64_to_u64-v-requires
 unfolding of_bits neg
-truncating_f64_to_u64-v-requires c = record { lower_bound = subst T (sym c.if-not-m.false) tt; upper_bound = subst T (sym c.if-not-m-2.false) tt }
+truncating_f64_to_u64-v-requires c = let both = both_true _ _ (sym c.in_range.ensures ∙ c.if-not-in_range.false) in record { lower_bound = subst T (sym both.0) tt; upper_bound = subst T (sym both.1) tt }
 
 pub returns-then-v-gt-LARGEST_WHOLE : goal.returns-then-v-gt-LARGEST_WHOLE
-returns-then-v-gt-LARGEST_WHOLE c = search (rules, whole_large, not-false)
-
-pub int_to_float-back : goal.int_to_float-back
-int_to_float-back c = search (rules, in_float_lem)
-
--- the float of the whole part is not the magnitude
-pub returns-then-back-m : goal.returns-then-back-m
 unfolding ne
-returns-then-back-m c = search (rules, whole_broken, not-true, not-false)
+returns-then-v-gt-LARGEST_WHOLE c =
+    elim c.then-v-gt-LARGEST_WHOLE.branch [
+      | then-v-gt-LARGEST_WHOLE-via-then-v-gt-LARGEST_WHOLE w ↦ search (rules, whole_large)
+      | then-v-gt-LARGEST_WHOLE-via-else-v-gt-LARGEST_WHOLE+then-v-m w ↦ search (rules, whole_broken, not-true)
+    ]
 
 pub returns : goal.returns
 unfolding ne

@@ -1,9 +1,9 @@
--- The body is the definition's own moves in its order, so that every need is found.
-use borrow.Author.Rules.{rules}
+-- The slice's own swap is the definition's two stores.
+use mathlib.Core.Path.{sym, ◌∙◌}
+use Rattle.std.proofs.lemmas.List.Edits.{swap_is}
 use Rattle.matrices.specs.Matrix.{exchange}
 use Rattle.matrices.proofs.order.exchange.Goals as goal
 
--- three moves are the exchange
 pub returns : goal.returns
 unfolding exchange
-returns c = search rules
+returns c = c.swap.ensures.after ∙ sym (swap_is c.args.order.now c.args.p c.args.q 0 c.requires.0 c.requires.1)

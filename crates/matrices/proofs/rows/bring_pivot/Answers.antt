@@ -5,11 +5,11 @@ use Rattle.matrices.proofs.Places.{few, row_inside}
 use Rattle.matrices.proofs.PivotBrought.{pivot_entry, pivot_inside, brought_none, brought_stays, brought_moves}
 use Rattle.matrices.proofs.rows.bring_pivot.Goals as goal
 
-pub returns-then-magnitude : goal.returns-then-magnitude
-returns-then-magnitude c = search (rules, brought_none)
+pub returns-then-pivot : goal.returns-then-pivot
+returns-then-pivot c = search (rules, brought_none)
 
-pub returns-then-row-i : goal.returns-then-row-i
-returns-then-row-i c = search (rules, brought_stays)
+pub returns-then-pivot-i : goal.returns-then-pivot-i
+returns-then-pivot-i c = search (rules, brought_stays)
 
 -- a row has at most 256 floats
 pub overflow_mul-n : goal.overflow_mul-n

@@ -1,7 +1,8 @@
 -- The word, then the number. Assumes nothing.
-use borrow.Author.Rules.{rules}
-use Rattle.rootsteps.proofs.Lines.{labelled_parts}
+use Rattle.texts.proofs.Page.{puts_then}
+use Rattle.rootsteps.specs.Table.{labelled}
 use Rattle.rootsteps.proofs.table.labelled.Goals as goal
 
 pub returns : goal.returns
-returns c = search (rules, labelled_parts)
+unfolding labelled
+returns c = puts_then _ _ c.bytes.ensures c.number.ensures

@@ -1,6 +1,8 @@
 -- Four parts, one after the other. Assumes nothing.
-use Rattle.rootsteps.proofs.Lines.{leading_parts}
+use Rattle.texts.proofs.Page.{puts_then}
+use Rattle.rootsteps.specs.Table.{leading_row}
 use Rattle.rootsteps.proofs.table.leading_row.Goals as goal
 
 pub returns : goal.returns
-returns c = leading_parts _ _ _ _ _ _ _ c.bytes-head.ensures c.labelled-first.ensures c.bytes-second.ensures c.row_end.ensures
+unfolding leading_row
+returns c = puts_then _ _ (puts_then _ _ (puts_then _ _ c.bytes.ensures c.labelled.ensures) c.bytes-2.ensures) c.row_end.ensures

@@ -1,6 +1,9 @@
 -- Six parts, one after the other. Assumes nothing.
-use Rattle.rootsteps.proofs.Lines.{sum_parts}
+use Rattle.texts.proofs.Page.{puts_then}
+use Rattle.rootsteps.specs.Table.{sum_line}
 use Rattle.rootsteps.proofs.table.sum_line.Goals as goal
 
 pub returns : goal.returns
-returns c = sum_parts _ _ _ _ _ _ _ _ _ _ _ c.labelled-first.ensures c.labelled-second.ensures c.labelled-third.ensures c.labelled-fourth.ensures c.labelled-fifth.ensures c.byte.ensures
+unfolding sum_line
+returns c =
+    puts_then _ _ (puts_then _ _ (puts_then _ _ (puts_then _ _ (puts_then _ _ c.labelled.ensures c.labelled-2.ensures) c.labelled-3.ensures) c.labelled-4.ensures) c.labelled-5.ensures) c.byte.ensures

@@ -1,5 +1,5 @@
 -- The scan looks one digit further than is allowed: none, too many, or a number.
-use borrow.Author.Rules.{rules}
+use Rattle.std.proofs.Common.{rules}
 use Rattle.texts.proofs.Numbers.{number_none, number_long, number_is}
 use Rattle.texts.proofs.read.number.Goals as goal
 

@@ -1,22 +1,16 @@
--- The loop keeps: the bytes passed are those of the word (Passed).
-use borrow.Author.Rules.{rules}
-use mathlib.Core.Path.{sym}
-use Rattle.texts.specs.Digits.{starts_with}
-use Rattle.texts.proofs.Every.{passed_none, passed_more, passed_all, every_false, read_same, read_other}
+-- The chain says that every byte of the word stands in the text, which is the test of the definition.
+use Rattle.std.proofs.Common.{rules, ◌≡◌, ◌↔◌, IsTrue, EachIndex, length, eqb, eq-eqb, eqb-true}
+use Rattle.texts.specs.Digits.{byte_at, starts_with}
+use Rattle.texts.proofs.Every.{every_said}
 use Rattle.texts.proofs.read.starts_with.Goals as goal
 
-pub loop-i-init : goal.loop-i-init
-loop-i-init c = passed_none _ _
-
--- a byte that is not the word's
-pub returns-then-byte_at-word : goal.returns-then-byte_at-word
-unfolding starts_with
-returns-then-byte_at-word c = sym (search (rules, every_false, read_other))
-
-pub loop-i-preserved : goal.loop-i-preserved
-loop-i-preserved c = search (rules, passed_more, read_same)
-
--- all of the word was passed
 pub returns : goal.returns
 unfolding starts_with
-returns c = sym (search (rules, passed_all))
+returns c =
+    let text = c.args.text.now in
+    let word = c.args.word.now in
+    let each : IsTrue c.all.result ↔ EachIndex word (λ i. byte_at text i ≡ byte_at word i) = search rules in
+    every_said (λ i. eqb (byte_at text i) (byte_at word i)) (λ i. byte_at text i ≡ byte_at word i) (length word) c.all.result
+    (λ k e. eq-eqb (byte_at text k) (byte_at word k) e)
+    (λ k e. eqb-true (byte_at text k) (byte_at word k) e)
+    each.0 each.1

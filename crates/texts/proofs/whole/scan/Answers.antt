@@ -1,16 +1,13 @@
--- The loop keeps: k digits are read, v stands for their number, and the text is worth what is left of it with that number in front (Scanning).
-use borrow.Author.Rules.{rules}
-use Rattle.texts.proofs.WholeNumbers.{scanning_none, scanning_more, scanning_stops, scanning_ends}
+-- The loop keeps: the first k bytes are digits, value stands for their number, and the text is worth what is left of it with that number in front (Scanning).
+use Rattle.std.proofs.Common.{rules, refl}
+use Rattle.texts.proofs.WholeNumbers.{scanning_more, scanning_stops, scanning_ends}
 use Rattle.texts.proofs.whole.scan.Goals as goal
 
-pub loop-k-init : goal.loop-k-init
-loop-k-init c = search (rules, scanning_none)
-
-pub returns-then-digit-ge10 : goal.returns-then-digit-ge10
-returns-then-digit-ge10 c = search (rules, scanning_stops)
+pub returns-in_default : goal.returns-in_default
+returns-in_default c = scanning_stops _ _ _ _ c.loop-k.invariant _ c.loop-k-test.true c.in_default.ensures refl refl refl
 
 pub loop-k-preserved : goal.loop-k-preserved
 loop-k-preserved c = search (rules, scanning_more)
 
 pub returns : goal.returns
-returns c = search (rules, scanning_ends)
+returns c = scanning_ends _ _ _ _ c.loop-k.invariant _ c.loop-k-test.false refl refl refl

@@ -1,11 +1,6 @@
--- The loop keeps: k digits are read, v stands for their number, and the text is worth what is left of it with that number in front (Scanning).
-use Prim.Native.Nat.{◌-◌}
-use lib.ListN.{length}
+-- The loop keeps: the first k bytes are digits, value stands for their number, and the text is worth what is left of it with that number in front (Scanning).
 use Rattle.texts.proofs.WholeNumbers.{Scanning}
 use Rattle.texts.proofs.whole.scan.Given as goal
 
 abbrev pub invariant-loop-k : goal.invariant-loop-k
-invariant-loop-k l = Scanning l.most l.text l.p l.value l.k
-
-abbrev pub decreases-loop-k : goal.decreases-loop-k
-decreases-loop-k l = length l.text - l.p - l.k
+invariant-loop-k l = Scanning l.most l.text l.value l.k

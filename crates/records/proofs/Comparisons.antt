@@ -1,0 +1,64 @@
+-- What `<`, `<=`, `>` and `>=` answer where values are ordered by a float of theirs, as records are by their real part: the float's own comparison. Assumes nothing.
+use mathlib.Core.Path.{◌≡◌, refl, ap, ◌∙◌}
+use Rattle.std.specs.Prelude.{Bool, true, false, cond, T, ◌||◌, Float}
+use Rattle.std.specs.Float.Ieee.{lt, le, eq}
+use Rattle.std.specs.Float.Order as floats
+use Rattle.std.specs.Float.Cmp.{floats_per}
+use Rattle.std.specs.declared.cmp.Ordering.{Ordering}
+use Rattle.std.specs.declared.cmp.Ordering.TheVariants.{Less, Equal, Greater}
+use Rattle.std.specs.declared.option.Option.{Option}
+use Rattle.std.specs.declared.option.Option.TheVariants.{None, Some}
+use Rattle.std.specs.Ordering.{is_lt, is_le, is_gt, is_ge, is_some_and, partial_lt, partial_le, partial_gt, partial_ge, float_partial_cmp, on}
+
+-- the answer from whether the first is less, equal or greater
+abbrev answer : Bool → Bool → Bool → Option Ordering
+answer a e b = cond a (Some Less) (cond e (Some Equal) (cond b (Some Greater) None))
+
+less : (a e b : Bool) → is_some_and is_lt (answer a e b) ≡ a
+less true e b = refl
+less false true b = refl
+less false false true = refl
+less false false false = refl
+
+less_or_equal : (a e b : Bool) → is_some_and is_le (answer a e b) ≡ (a || e)
+less_or_equal true e b = refl
+less_or_equal false true b = refl
+less_or_equal false false true = refl
+less_or_equal false false false = refl
+
+greater : (a e b : Bool) → (T a → ¬ (T b)) → (T e → ¬ (T b)) → is_some_and is_gt (answer a e b) ≡ b
+greater true e true f g = absurd (f tt tt)
+greater true e false f g = refl
+greater false true true f g = absurd (g tt tt)
+greater false true false f g = refl
+greater false false true f g = refl
+greater false false false f g = refl
+
+greater_or_equal : (a e b : Bool) → (T a → ¬ (T b)) → (T e → ¬ (T a)) → is_some_and is_ge (answer a e b) ≡ (b || e)
+greater_or_equal true true b f g = absurd (g tt tt)
+greater_or_equal true false true f g = absurd (f tt tt)
+greater_or_equal true false false f g = refl
+greater_or_equal false true true f g = refl
+greater_or_equal false true false f g = refl
+greater_or_equal false false true f g = refl
+greater_or_equal false false false f g = refl
+
+module _ {K : Type 0} (f : K → Float) (x y : K) where
+  pub lt_by : partial_lt (on f float_partial_cmp) x y ≡ lt (f x) (f y)
+  lt_by = less (lt (f x) (f y)) (eq (f x) (f y)) (lt (f y) (f x))
+
+  pub le_by : partial_le (on f float_partial_cmp) x y ≡ le (f x) (f y)
+  unfolding le
+  le_by = less_or_equal (lt (f x) (f y)) (eq (f x) (f y)) (lt (f y) (f x))
+
+  not_both : T (lt (f x) (f y)) → ¬ (T (lt (f y) (f x)))
+  not_both h k = floats.lt_irrefl (f x) (floats.lt_trans (f x) (f y) (f x) h k)
+
+  pub gt_by : partial_gt (on f float_partial_cmp) x y ≡ lt (f y) (f x)
+  gt_by = greater (lt (f x) (f y)) (eq (f x) (f y)) (lt (f y) (f x)) not_both (λ e. floats.eq-not_lt (f y) (f x) (floats.eq_flip (f x) (f y) e))
+
+  pub ge_by : partial_ge (on f float_partial_cmp) x y ≡ le (f y) (f x)
+  unfolding le
+  ge_by =
+      greater_or_equal (lt (f x) (f y)) (eq (f x) (f y)) (lt (f y) (f x)) not_both (floats.eq-not_lt (f x) (f y))
+      ∙ ap (λ (e : Bool). lt (f y) (f x) || e) (floats_per.symm (f x) (f y))

@@ -1,0 +1,6 @@
+-- The loop keeps: the products left to take give the whole row (Substitution).
+use Rattle.matrices.proofs.Substitution.{Lessening}
+use Rattle.substitution.proofs.less_row.Given as goal
+
+abbrev pub invariant-loop-k : goal.invariant-loop-k
+invariant-loop-k g l = Lessening g.met.R.Record.laws l.n l.a l.x l.stride l.base l.i l.lo l.hi l.initial.r l.r l.k

@@ -1,7 +1,0 @@
--- Inside it is the byte; past the end 0 is what the definition gives.
-use borrow.Author.Rules.{rules}
-use Rattle.texts.proofs.Digits.{past_end}
-use Rattle.texts.proofs.read.byte_at.Goals as goal
-
-pub returns : goal.returns
-returns c = search (rules, past_end)

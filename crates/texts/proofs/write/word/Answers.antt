@@ -1,7 +1,0 @@
--- The digits that `io` gives are 16, since no word has more.
-use borrow.Author.Rules.{rules}
-use Rattle.texts.proofs.Decimals.{hex_written}
-use Rattle.texts.proofs.write.word.Goals as goal
-
-pub returns : goal.returns
-returns c = search (rules, hex_written)
