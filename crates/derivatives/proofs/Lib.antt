@@ -1,6 +1,4 @@
--- Laws of the elementary functions; those that the record crates cite are public.
--- what a record makes of a plan, arm by arm, over any record
-pub mod Arms
+-- Laws of the elementary functions; those that `records` cites are public.
 -- what goes by a sign or a size, case by case, over any record
 pub mod Signs
 -- real parts come from real parts alone, over any record
