@@ -1,5 +1,6 @@
 // LU column by column, and the determinant, over any record.
 // Inner: for `lu`, which has the entries. Its functions have a `requires`, which that crate shows.
+// Kept: n stands beside a, and `Square` in the contracts: a is lent to be written, to `matrices` too, so a type over `&mut [f64]` would be made anew at each call.
 
 #![tactic(auto)]
 
@@ -38,8 +39,7 @@ fn subtract_row<R: Record>(n: usize, a: &mut [f64], i: usize, j: usize, x: R)
 {
     let to = j * n;
     let from = i * n;
-    // Kept, here and in the loops below over rows and columns: two rows of one slice of flat floats are read while one is written, record by record, so that no
-    // iterator over items is plainer than the range.
+    // Kept, as the loops below over rows: two rows of one slice are read while one is written, record by record, so that no iterator is plainer than the range.
     for k in i + 1..n {
         subtract_record(a, to + k, from + k, x);
     }

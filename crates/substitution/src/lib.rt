@@ -1,5 +1,6 @@
 // Solve, and inverse column by column, over any record. The starts of a vector are written first; then each element is made from what stands in its place.
 // Inner: for `lu`, which has the entries. Its functions have a `requires`, which that crate shows.
+// Kept: `Order n order` stands in four contracts, two of which hand it on: a type for it would be made in two places and taken apart at once, so it is no plainer.
 
 #![tactic(auto)]
 
@@ -67,8 +68,7 @@ fn less_row<R: Record>(
 {
     let row = i * a.n;
     let mut r = v;
-    // Kept, here and in the loops below over rows: records stand in flat floats by their places, a row's and a vector's at other distances, and x is written while it is
-    // read, so that no iterator over items is plainer than the range.
+    // Kept, as the loops below over rows: a row's records and a vector's lie at different distances, and x is read while it is written: no iterator is plainer than the range.
     for k in lo..hi {
         r = less_product(r, a.floats, row + k, x, place.at(k));
     }
