@@ -1,7 +1,7 @@
 -- One record of flat floats, read and stored by its place, over any record and layout. Assumes nothing.
 use Prim.Native.Nat.{ℕ, zero, suc, ◌+◌, ◌-◌, ◌*◌, ◌≤◌, ◌<◌}
 use mathlib.Core.Path.{◌≡◌, refl, ap, sym, ◌∙◌}
-use mathlib.Core.List.{List, [], ◌∷◌}
+use mathlib.Core.List.{List, [], ◌∷◌, append-nil}
 use native.Mathlib.Omega.{arith}
 use lib.ListN.{length, get_or, set}
 use lib.Seq.{sets}
@@ -80,3 +80,17 @@ module _ {R : Type 0} {A : Algebra R} {L : Layout R} (Q : Laws A L) where
 
   pub write_held : (l : List Float) (p : ℕ) (x : R) → p < length (decode L l) → decode L (stores l (p * L.width) 0 (L.parts x)) ≡ set (decode L l) p x
   write_held l p x h = write_record l p x (last_inside l p h)
+
+-- A record that the record's writer stored, and no float more: its parts.
+module _ {R : Type 0} {A : Algebra R} {L : Layout R} (Q : Laws A L) (l : List Float) where
+  the_one : (m : List R) (x : R) → length (set m 0 x) ≡ 1 → set m 0 x ≡ x ∷ []
+  the_one [] x h = absurd (omega arith)
+  the_one (a ∷ []) x h = refl
+  the_one (a ∷ b ∷ m) x h = absurd (omega arith)
+
+  pub one_written : (m : List R) (x : R) → length l ≡ L.width → decode L l ≡ set m 0 x → l ≡ L.parts x
+  unfolding encode
+  one_written m x size e =
+      let whole : length l ≡ 1 * L.width = omega arith in
+      let held = sym (ap length e) ∙ holds Q l 1 whole in
+      parts_of Q l 1 (x ∷ []) whole (e ∙ the_one m x held) ∙ append-nil (L.parts x)

@@ -26,7 +26,8 @@ use Rattle.calls.specs.declared.table.Call.TheVariants.{Record}
 use Rattle.calls.specs.Table.{line, line_of}
 use Rattle.floats.specs.Words.{first_floats, words_of}
 use Rattle.calls.specs.Called.{Kind, fitting, call_of, called_of, operated_of, binary_number, binary_of, answer_of, leaves, joined_left, summed_of, multiplied_of}
-use Rattle.calls.proofs.Lent.{lent, one_written}
+use Rattle.algebra.proofs.Cells.{one_written}
+use Rattle.calls.proofs.Lent.{lent}
 
 -- A call by number: the call that was found leaves it, of the three records that were read.
 module _ {R : Type 0} (K : Kind R) (Q : Laws K.algebra K.layout) (function : ℕ) (exponent : ℤ) (records floats out : List ℕ) where

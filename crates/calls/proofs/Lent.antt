@@ -1,16 +1,16 @@
--- Records of lent words, through the record's own reader and writer: laws over any record. Assumes nothing.
+-- Records of lent words, through the record's own reader: laws over any record. Assumes nothing.
 use Prim.Native.Nat.{ℕ, ◌+◌, ◌*◌, ◌≤◌, ◌<◌}
 use mathlib.Core.Path.{◌≡◌, refl, sym, ap, ◌∙◌}
-use mathlib.Core.List.{List, [], ◌∷◌, append-nil}
+use mathlib.Core.List.{List}
 use native.Mathlib.Omega.{arith}
-use lib.ListN.{length, get_or, set}
+use lib.ListN.{length, get_or}
 use lib.Ieee.{Float}
 use Rattle.real.specs.Operations as float
 use Rattle.algebra.specs.Algebra.{Algebra, zero_of}
-use Rattle.algebra.specs.Flat.{Layout, record_at, decode, encode}
+use Rattle.algebra.specs.Flat.{Layout, record_at, decode}
 use Rattle.algebra.proofs.Laws.{Laws}
 use Rattle.algebra.proofs.Flat.{tabulate_length, tabulate_at}
-use Rattle.algebra.proofs.Cells.{holds, parts_of, read_at}
+use Rattle.algebra.proofs.Cells.{read_at}
 use Rattle.floats.specs.Words.{floats_of, first_floats}
 
 -- A record that the reader gives of the first floats of the words is the one that the words hold.
@@ -28,17 +28,3 @@ module _ {R : Type 0} {A : Algebra R} {L : Layout R} (Q : Laws A L) (words : Lis
       let z = Q.lawful.positive in
       e ∙ sym (read_at Q l p float.zero (omega arith))
       ∙ Q.lawful.reads (λ i. get_or l (p * L.width + i) float.zero) (λ i. get_or (floats_of words) (p * L.width + i) float.zero) (as_read p h)
-
--- A record that the record's writer stored, and no float more: its parts.
-module _ {R : Type 0} {A : Algebra R} {L : Layout R} (Q : Laws A L) (l : List Float) where
-  the_one : (m : List R) (x : R) → length (set m 0 x) ≡ 1 → set m 0 x ≡ x ∷ []
-  the_one [] x h = absurd (omega arith)
-  the_one (a ∷ []) x h = refl
-  the_one (a ∷ b ∷ m) x h = absurd (omega arith)
-
-  pub one_written : (m : List R) (x : R) → length l ≡ L.width → decode L l ≡ set m 0 x → l ≡ L.parts x
-  unfolding encode
-  one_written m x size e =
-      let whole : length l ≡ 1 * L.width = omega arith in
-      let held = sym (ap length e) ∙ holds Q l 1 whole in
-      parts_of Q l 1 (x ∷ []) whole (e ∙ the_one m x held) ∙ append-nil (L.parts x)

@@ -18,6 +18,7 @@ use records::Record;
 use refusals::Refusal;
 
 // Record `to` less x times record `from`.
+#[inline]
 fn subtract_record<R: Record>(a: &mut [f64], to: usize, from: usize, x: R)
     requires to_held { to < length (decode R.layout a.old) }
     requires from_held { from < length (decode R.layout a.old) }
@@ -37,6 +38,8 @@ fn subtract_row<R: Record>(n: usize, a: &mut [f64], i: usize, j: usize, x: R)
 {
     let to = j * n;
     let from = i * n;
+    // Kept, here and in the loops below over rows and columns: two rows of one slice of flat floats are read while one is written, record by record, so that no
+    // iterator over items is plainer than the range.
     for k in i + 1..n {
         subtract_record(a, to + k, from + k, x);
     }

@@ -5,7 +5,7 @@ use Rattle.algebra.proofs.Flat.{decode_length}
 use Rattle.algebra.proofs.Cells.{read_held, write_held}
 use Rattle.dual.specs.declared.Dual.{Dual}
 use Rattle.dual.specs.Rules.{dual, dual_algebra, dual_layout, dual_records}
-pub use Rattle.dual.specs.Laws.{dual_lawful, dual_agrees, dual_laws}
+use Rattle.dual.specs.Laws.{dual_lawful, dual_laws}
 
 pub dual_held : (l : List Float) → length (dual_records l) ≡ length l / 2
 dual_held = decode_length dual_layout dual_lawful

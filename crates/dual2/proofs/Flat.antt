@@ -5,7 +5,7 @@ use Rattle.algebra.proofs.Flat.{decode_length}
 use Rattle.algebra.proofs.Cells.{read_held, write_held}
 use Rattle.dual2.specs.declared.Dual2.{Dual2}
 use Rattle.dual2.specs.Rules.{dual2, dual2_algebra, dual2_layout, dual2_records}
-pub use Rattle.dual2.specs.Laws.{dual2_lawful, dual2_agrees, dual2_laws}
+use Rattle.dual2.specs.Laws.{dual2_lawful, dual2_laws}
 
 pub dual2_held : (l : List Float) → length (dual2_records l) ≡ length l / 3
 dual2_held = decode_length dual2_layout dual2_lawful

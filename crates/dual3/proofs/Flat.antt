@@ -5,7 +5,7 @@ use Rattle.algebra.proofs.Flat.{decode_length}
 use Rattle.algebra.proofs.Cells.{read_held, write_held}
 use Rattle.dual3.specs.declared.Dual3.{Dual3}
 use Rattle.dual3.specs.Rules.{dual3, dual3_algebra, dual3_layout, dual3_records}
-pub use Rattle.dual3.specs.Laws.{dual3_lawful, dual3_agrees, dual3_laws}
+use Rattle.dual3.specs.Laws.{dual3_lawful, dual3_laws}
 
 pub dual3_held : (l : List Float) → length (dual3_records l) ≡ length l / 4
 dual3_held = decode_length dual3_layout dual3_lawful

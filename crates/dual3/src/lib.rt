@@ -3,7 +3,7 @@
 
 #![tactic(auto)]
 
-ghost use Rattle.std.specs.Prelude.{◌≡◌};
+ghost use Rattle.std.specs.Prelude.{◌≡◌, refl};
 ghost use Rattle.std.specs.Float.Ieee.{eq};
 ghost use Rattle.std.specs.Ordering.{float_partial_cmp, on};
 ghost use Rattle.std.specs.Float.Cmp.{on_floats_per, on_floats_po};
@@ -11,7 +11,7 @@ ghost use Rattle.dual3.specs.Rules.{dual3, dual3_derivative, dual3_derivatives, 
 ghost use Rattle.dual3.specs.Laws.{dual3_laws};
 
 use derivatives::Series;
-use records::{Derivative, Record, ThirdDerivative};
+use records::{Compared, Derivative, Record, ThirdDerivative};
 use refusals::Refusal;
 use std::cmp::Ordering;
 
@@ -210,4 +210,10 @@ impl PartialOrd for Dual3 {
     fn partial_cmp(&self, other: &Dual3) -> Option<Ordering> {
         self.re.partial_cmp(&other.re)
     }
+}
+
+impl Compared for Dual3 {
+    ghost equal = { λ x y. refl };
+
+    ghost ordered = { λ x y. refl };
 }

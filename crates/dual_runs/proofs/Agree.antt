@@ -14,7 +14,7 @@ use Rattle.algebra.specs.Outcome.{value}
 use Rattle.algebra.proofs.Flat.{encode_length, decode_encode}
 use Rattle.dual.specs.declared.Dual.{Dual}
 use Rattle.dual.specs.Rules.{dual_add, dual_mul, dual_algebra, dual_layout}
-use Rattle.dual.proofs.Flat.{dual_lawful}
+use Rattle.dual.specs.Laws.{dual_lawful}
 use Rattle.dual_runs.specs.Runs.{joined}
 
 -- a loop that joins a table's values, turn by turn, joins the table

@@ -11,21 +11,18 @@ use lib.Ieee.{Float}
 use borrow.Author.Tests.{ltb-false, eqb-true, eq-eqb, ne_eqb}
 use Rattle.real.specs.Operations as float
 use Rattle.refusals.specs.Largest as largest
-use Rattle.algebra.specs.Outcome.{number_of}
+use Rattle.algebra.specs.Outcome.{outcome, number_of}
 use Rattle.dual.specs.Rules.{dual_algebra, dual_layout}
 use Rattle.matrices.specs.Entries.{LuLeft, lu_left}
 use Rattle.matrices.specs.Answers.{lu_outcome, lu_column}
 use Rattle.matrices.proofs.Answers.{passed}
-use Rattle.matrices.specs.declared.LuAnswer.{LuAnswer}
-use Rattle.matrices.specs.declared.LuAnswer.TheVariants as lu
+use Rattle.matrices.specs.declared.LuRefusal.{LuRefusal}
+use Rattle.matrices.specs.declared.LuRefusal.TheVariants as lu
 use Rattle.jacobi.specs.Entry.{JacobiLeft, jacobi_left}
-use Rattle.jacobi.specs.Answer.{outcome}
-use Rattle.jacobi.specs.declared.JacobiAnswer.{JacobiAnswer}
-use Rattle.jacobi.specs.declared.JacobiAnswer.TheVariants as jacobi
 use Rattle.texts.specs.declared.write.Writer.{Writer}
 use Rattle.texts.specs.Page.{Puts}
 use Rattle.texts.proofs.Page.{puts_then, puts_as}
-use Rattle.std.specs.Prelude.{◌/◌, Option}
+use Rattle.std.specs.Prelude.{◌/◌, Option, Result, Ok, Err}
 use Rattle.refusals.specs.declared.Refusal.{Refusal}
 use Rattle.refusals.specs.declared.Refusal.TheVariants.{Unreadable}
 use Rattle.refusals.specs.Refused.{number}
@@ -104,34 +101,30 @@ module _ (u v : Writer) (text : List ℕ) (n start : ℕ) (small : Fits n) where
 all_records : (l : List Float) (k : ℕ) → length l ≡ k * 2 → record_lines l (length l / 2) ≡ record_lines l k
 all_records l k e = ap (record_lines l) (let h : length l / 2 ≡ k = omega arith in h)
 
-module _ (n : ℕ) (factors : List Float) (order : List ℕ) (answer : LuAnswer) where
-  pub lu_refused : (u v : Writer) (a b number column : ℕ) → answer ≡ lu.Refused a b → number ≡ number_of (lu_outcome answer) → column ≡ lu_column answer
+module _ (n : ℕ) (factors : List Float) (order : List ℕ) (answer : Result ℕ LuRefusal) where
+  pub lu_refused : (u v : Writer) (e : LuRefusal) (number column : ℕ) → answer ≡ Err e → number ≡ number_of (lu_outcome (Err e)) → column ≡ lu_column (Err e)
       → Puts u v (pair_line number column) → Puts u v (lu_lines n (lu_outcome answer) (lu_column answer) factors order)
-  lu_refused u v a b number column e f g h = puts_as h ((λ i. pair_line (f i) (g i)) ∙ printed e)
+  lu_refused u v e number column is f g h = puts_as h ((λ i. pair_line (f i) (g i)) ∙ printed e ∙ ap (λ (r : Result ℕ LuRefusal). lu_lines n (lu_outcome r) (lu_column r) factors order) (sym is))
     where
-      printed : answer ≡ lu.Refused a b → pair_line (number_of (lu_outcome answer)) (lu_column answer) ≡ lu_lines n (lu_outcome answer) (lu_column answer) factors order
-      printed e = rw e
+      printed : (e : LuRefusal) → pair_line (number_of (lu_outcome (Err e))) (lu_column (Err e)) ≡ lu_lines n (lu_outcome (Err e)) (lu_column (Err e)) factors order
+      printed (lu.Refused r) = refl
+      printed (lu.Singular c) = refl
 
-  pub lu_done : (u v w x : Writer) (swaps : ℕ) → answer ≡ lu.Done swaps → length order ≡ n → length factors ≡ n * n * 2 → Puts u v (pair_line 0 swaps) → Puts v w (order_line order (length order)) → Puts w x (record_lines factors (length factors / 2))
+  pub lu_done : (u v w x : Writer) (swaps : ℕ) → answer ≡ Ok swaps → length order ≡ n → length factors ≡ n * n * 2 → Puts u v (pair_line 0 swaps) → Puts v w (order_line order (length order)) → Puts w x (record_lines factors (length factors / 2))
       → Puts u x (lu_lines n (lu_outcome answer) (lu_column answer) factors order)
-  lu_done u v w x swaps e size full f g h = puts_as (puts_then _ _ (puts_then _ _ f g) (puts_as h (all_records factors (n * n) full))) (printed e size)
-    where
-      printed : answer ≡ lu.Done swaps → length order ≡ n → pair_line 0 swaps ++ order_line order (length order) ++ record_lines factors (n * n) ≡ lu_lines n (lu_outcome answer) (lu_column answer) factors order
-      printed e h = rw (e, h)
+  lu_done u v w x swaps is size full f g h =
+      puts_as (puts_then _ _ (puts_then _ _ f (puts_as g (ap (order_line order) size))) (puts_as h (all_records factors (n * n) full)))
+      (ap (λ (r : Result ℕ LuRefusal). lu_lines n (lu_outcome r) (lu_column r) factors order) (sym is))
 
-module _ (n : ℕ) (values vectors : List Float) (answer : JacobiAnswer) where
-  pub eig_refused : (u v : Writer) (a number : ℕ) → answer ≡ jacobi.Refused a → number ≡ number_of (outcome answer) → Puts u v (pair_line number 0) → Puts u v (eig_lines n (outcome answer) values vectors)
-  eig_refused u v a number e f h = puts_as h (ap (λ (k : ℕ). pair_line k 0) f ∙ printed e)
-    where
-      printed : answer ≡ jacobi.Refused a → pair_line (number_of (outcome answer)) 0 ≡ eig_lines n (outcome answer) values vectors
-      printed e = rw e
+module _ (n : ℕ) (values vectors : List Float) (answer : Result ℕ Refusal) where
+  pub eig_refused : (u v : Writer) (e : Refusal) (k : ℕ) → answer ≡ Err e → k ≡ number e → Puts u v (pair_line k 0) → Puts u v (eig_lines n (outcome answer) values vectors)
+  eig_refused u v e k is f h = puts_as h (ap (λ (j : ℕ). pair_line j 0) f ∙ ap (λ (r : Result ℕ Refusal). eig_lines n (outcome r) values vectors) (sym is))
 
-  pub eig_done : (u v w x : Writer) (sweeps : ℕ) → answer ≡ jacobi.Done sweeps → length values ≡ n * 2 → length vectors ≡ n * n * 2 → Puts u v (pair_line 0 sweeps) → Puts v w (record_lines values (length values / 2)) → Puts w x (record_lines vectors (length vectors / 2))
+  pub eig_done : (u v w x : Writer) (sweeps : ℕ) → answer ≡ Ok sweeps → length values ≡ n * 2 → length vectors ≡ n * n * 2 → Puts u v (pair_line 0 sweeps) → Puts v w (record_lines values (length values / 2)) → Puts w x (record_lines vectors (length vectors / 2))
       → Puts u x (eig_lines n (outcome answer) values vectors)
-  eig_done u v w x sweeps e row full f g h = puts_as (puts_then _ _ (puts_then _ _ f (puts_as g (all_records values n row))) (puts_as h (all_records vectors (n * n) full))) (printed e)
-    where
-      printed : answer ≡ jacobi.Done sweeps → pair_line 0 sweeps ++ record_lines values n ++ record_lines vectors (n * n) ≡ eig_lines n (outcome answer) values vectors
-      printed e = rw e
+  eig_done u v w x sweeps is row full f g h =
+      puts_as (puts_then _ _ (puts_then _ _ f (puts_as g (all_records values n row))) (puts_as h (all_records vectors (n * n) full)))
+      (ap (λ (r : Result ℕ Refusal). eig_lines n (outcome r) values vectors) (sym is))
 
 -- ---- the lines of the matrix, good or not
 module _ (u v : Writer) (text : List ℕ) (n start size : ℕ) (sized : size ≡ n * n * 2) where

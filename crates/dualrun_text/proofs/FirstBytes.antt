@@ -5,16 +5,16 @@ use mathlib.Core.Path.{◌≡◌, refl, sym, ap, subst, ◌∙◌}
 use mathlib.Core.Bool.{Bool, true, false, cond, ◌&&◌}
 use mathlib.Core.List.{List}
 use native.Mathlib.Omega.{arith}
-use lib.Dec.{leb, ltb, eqb}
+use lib.Dec.{leb, ltb, eqb, lit<}
 use lib.ListN.{length}
-use borrow.Author.Tests.{eqb-true, ne_eqb}
+use borrow.Author.Tests.{eqb-true, ne_eqb, ltb-true, ltb-false}
 use Rattle.std.specs.Prelude.{Option, Some, None}
 use Rattle.texts.specs.declared.Number.{Number}
 use Rattle.texts.specs.Bytes.{newline, space}
 use Rattle.texts.specs.Digits.{byte_at, every, starts_with, no_newline, is_digit, digit_value, digit_run, number_at}
 use Rattle.texts.specs.Numbers.{number_from}
 use Rattle.texts.proofs.Every.{every_at}
-use Rattle.texts.proofs.Digits.{digit_run_most}
+use Rattle.texts.proofs.Digits.{past_end, digit_run_most}
 use Rattle.texts.proofs.Numbers.{number_end}
 use Rattle.texts.proofs.Newline.{Clear, clear_fewer, clear_more, clear_text, digit_clear, run_clear, number_clear}
 use Rattle.dualrun_text.specs.declared.Request.{Request}
@@ -151,12 +151,42 @@ module _ (t : List ℕ) where
       by false true = then_small (length eig_word) space longest_line (limit_line t) (λ v e k. then_small (e + 1) newline longest_line (λ limit start. Some (Eig v limit start)) (λ w d j. omega arith))
       by false false = omega arith
 
-  -- the reader's answer, by its case
-  pub lu_start : (q : Option Request) (n start : ℕ) → q ≡ Some (Lu n start) → q ≡ request_of t → start ≤ longest_line
-  lu_start q n start e g = subst (λ (r : Option Request). start_of r ≤ longest_line) (sym g ∙ e) start_small
+  -- the byte behind a number stands in the text, so the matrix starts in it or right after it
+  byte_inside : (p b : ℕ) → byte_at t p ≡ b → 0 < b → p < length t
+  byte_inside p b e h = by (ltb p (length t)) refl
+    where
+      by : (x : Bool) → ltb p (length t) ≡ x → p < length t
+      by true g = ltb-true p (length t) g
+      by false g = absurd (let z : 0 ≡ byte_at t p = past_end t p (ltb-false p (length t) g) in omega arith)
 
-  pub eig_start : (q : Option Request) (n limit start : ℕ) → q ≡ Some (Eig n limit start) → q ≡ request_of t → start ≤ longest_line
-  eig_start q n limit start e g = subst (λ (r : Option Request). start_of r ≤ longest_line) (sym g ∙ e) start_small
+  module _ (p wanted : ℕ) (shown : 0 < wanted) (f : ℕ → ℕ → Option Request) (starts : (v e : ℕ) → e < length t → start_of (f v (e + 1)) ≤ length t) where
+    after_inside : (m : Option Number) → start_of (after t wanted f m) ≤ length t
+    after_inside (Some n) = by (eqb (byte_at t n.end) wanted) refl
+      where
+        by : (b : Bool) → eqb (byte_at t n.end) wanted ≡ b → start_of (cond b (f n.value (n.end + 1)) None) ≤ length t
+        by true e = starts n.value n.end (byte_inside n.end wanted (eqb-true (byte_at t n.end) wanted e) shown)
+        by false e = omega arith
+    after_inside None = omega arith
+
+    then_inside : start_of (number_then t p wanted f) ≤ length t
+    unfolding number_then
+    then_inside = after_inside (number_from number_digits t p)
+
+  start_inside : start_of (request_of t) ≤ length t
+  unfolding request_of
+  start_inside = by (starts_with lu_word t) (starts_with eig_word t)
+    where
+      by : (a b : Bool) → start_of (cond a (lu_line t) (cond b (eig_line t) None)) ≤ length t
+      by true b = then_inside (length lu_word) newline (lit< tt) (λ n start. Some (Lu n start)) (λ v e h. omega arith)
+      by false true = then_inside (length eig_word) space (lit< tt) (limit_line t) (λ v e h. then_inside (e + 1) newline (lit< tt) (λ limit start. Some (Eig v limit start)) (λ w d g. omega arith))
+      by false false = omega arith
+
+  -- the reader's answer, by its case
+  pub lu_start : (q : Option Request) (n start : ℕ) → q ≡ Some (Lu n start) → q ≡ request_of t → start ≤ length t
+  lu_start q n start e g = subst (λ (r : Option Request). start_of r ≤ length t) (sym g ∙ e) start_inside
+
+  pub eig_start : (q : Option Request) (n limit start : ℕ) → q ≡ Some (Eig n limit start) → q ≡ request_of t → start ≤ length t
+  eig_start q n limit start e g = subst (λ (r : Option Request). start_of r ≤ length t) (sym g ∙ e) start_inside
 
   -- ---- no newline as far as the longest line goes: nothing can be read
   module _ (none : Clear t longest_line) where

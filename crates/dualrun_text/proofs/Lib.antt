@@ -4,6 +4,7 @@ mod FirstLine
 mod LineCame
 mod FirstBytes
 mod Words
+mod Moved
 -- writing
 mod Lines
 -- the two commands

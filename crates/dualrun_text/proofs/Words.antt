@@ -77,14 +77,7 @@ pub record Reading (text : List ℕ) (start m : ℕ) (l : List Float) (i : ℕ) 
   pub good : Passed (is_word text start) m i
   pub floats : (j : ℕ) → j < i → get_or l j nan ≡ float_at text start j
 
--- nothing follows where it cannot be read
-pub never : (A : Type 0) → false ≡ true → A
-never A e = absurd (true≢false (sym e))
-
 module _ (text : List ℕ) (start : ℕ) where
-  pub reading_none : (l : List Float) → Reading text start (length l) l 0
-  reading_none l = record { size = refl; good = passed_none (is_word text start) (length l); floats = λ j h. absurd (omega arith) }
-
   module _ (m : ℕ) where
     pub body_other_length : (length text ≡ start + word_bytes * m → ⊥) → false ≡ is_body text start m
     unfolding is_body

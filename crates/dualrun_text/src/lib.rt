@@ -2,8 +2,8 @@
 
 #![tactic(auto)]
 
-mod eig;
-mod lu;
+mod eig_command;
+mod lu_command;
 mod read;
 mod write;
 
@@ -53,8 +53,8 @@ impl Request {
         ensures { answer_number result ≡ line_refusal (Some self) }
     {
         match self {
-            Request::Lu { n, start: _ } => lu::line_refusal(n),
-            Request::Eig { n, limit, start: _ } => eig::line_refusal(n, limit),
+            Request::Lu { n, start: _ } => lu_command::line_refusal(n),
+            Request::Eig { n, limit, start: _ } => eig_command::line_refusal(n, limit),
         }
     }
 }
@@ -64,8 +64,8 @@ fn answer(page: &mut Writer, text: &[u8])
     ensures { Puts page.old page.new (output_of text.now) }
 {
     match read::request(text) {
-        Some(Request::Lu { n, start }) => lu::command(page, text, n, start),
-        Some(Request::Eig { n, limit, start }) => eig::command(page, text, n, limit, start),
+        Some(Request::Lu { n, start }) => lu_command::run(page, &text[start..], n),
+        Some(Request::Eig { n, limit, start }) => eig_command::run(page, &text[start..], n, limit),
         None => write::refusal(page, Refusal::Unreadable),
     }
 }

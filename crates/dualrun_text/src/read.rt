@@ -77,35 +77,35 @@ fn separator(i: usize) -> u8
     if i % 2 == 0 { b' ' } else { b'\n' }
 }
 
-// Word number i of the lines that begin at `start`.
-fn word(text: &[u8], start: usize, i: usize) -> Option<u64>
-    requires { (start ≤ longest_line) × (i < most_floats) }
-    ensures { result ≡ word_at text.now start i }
+// Word number i of the text after the first line.
+fn word(rest: &[u8], i: usize) -> Option<u64>
+    requires { i < most_floats }
+    ensures { result ≡ word_at rest.now 0 i }
 {
-    let p = start + super::WORD_BYTES * i;
-    let s = read::scan(text, p, 16, super::WORD_DIGITS);
+    let p = super::WORD_BYTES * i;
+    let s = read::scan(rest, p, 16, super::WORD_DIGITS);
     let digits = s.digits;
     if digits != super::WORD_DIGITS {
         return None;
     }
-    if read::byte_at(text, p + super::WORD_DIGITS) != separator(i) {
+    if read::byte_at(rest, p + super::WORD_DIGITS) != separator(i) {
         return None;
     }
     Some(s.value)
 }
 
-// The lines from `start` on into the matrix, which they fill; refused where they are not as they should be.
-pub(crate) fn body(text: &[u8], start: usize, matrix: &mut [f64]) -> Result<(), Refusal>
-    requires { (start ≤ longest_line) × (length matrix.old ≤ most_floats) }
+// The text after the first line into the matrix, which its words fill; refused where they are not as they should be.
+pub(crate) fn body(rest: &[u8], matrix: &mut [f64]) -> Result<(), Refusal>
+    requires { length matrix.old ≤ most_floats }
     ensures { MatchResult result
-        (λ _. (is_body text.now start (length matrix.old) ≡ true) × (matrix.new ≡ floats_from text.now start (length matrix.old)))
-        (λ refusal. (is_body text.now start (length matrix.old) ≡ false) × (refusal ≡ Unreadable)) }
+        (λ _. (is_body rest.now 0 (length matrix.old) ≡ true) × (matrix.new ≡ floats_from rest.now 0 (length matrix.old)))
+        (λ refusal. (is_body rest.now 0 (length matrix.old) ≡ false) × (refusal ≡ Unreadable)) }
 {
-    if text.len() != start + super::WORD_BYTES * matrix.len() {
+    if rest.len() != super::WORD_BYTES * matrix.len() {
         return Err(Refusal::Unreadable);
     }
     for (i, x) in matrix.iter_mut().enumerate() {
-        let Some(word) = word(text, start, i) else {
+        let Some(word) = word(rest, i) else {
             return Err(Refusal::Unreadable);
         };
         *x = real::float_of_word(word);

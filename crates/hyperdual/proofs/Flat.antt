@@ -5,7 +5,7 @@ use Rattle.algebra.proofs.Flat.{decode_length}
 use Rattle.algebra.proofs.Cells.{read_held, write_held}
 use Rattle.hyperdual.specs.declared.HyperDual.{HyperDual}
 use Rattle.hyperdual.specs.Rules.{hyper_dual, hyper_dual_algebra, hyper_dual_layout, hyper_dual_records}
-pub use Rattle.hyperdual.specs.Laws.{hyper_dual_lawful, hyper_dual_agrees, hyper_dual_laws}
+use Rattle.hyperdual.specs.Laws.{hyper_dual_lawful, hyper_dual_laws}
 
 pub hyper_dual_held : (l : List Float) → length (hyper_dual_records l) ≡ length l / 4
 hyper_dual_held = decode_length hyper_dual_layout hyper_dual_lawful

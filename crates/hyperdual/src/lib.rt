@@ -3,7 +3,7 @@
 
 #![tactic(auto)]
 
-ghost use Rattle.std.specs.Prelude.{◌≡◌};
+ghost use Rattle.std.specs.Prelude.{◌≡◌, refl};
 ghost use Rattle.std.specs.Float.Ieee.{eq};
 ghost use Rattle.std.specs.Ordering.{float_partial_cmp, on};
 ghost use Rattle.std.specs.Float.Cmp.{on_floats_per, on_floats_po};
@@ -11,7 +11,7 @@ ghost use Rattle.hyperdual.specs.Rules.{hyper_dual, hyper_dual_derivative1, hype
 ghost use Rattle.hyperdual.specs.Laws.{hyper_dual_laws};
 
 use derivatives::Series;
-use records::{Derivative, Record};
+use records::{Compared, Derivative, Record};
 use refusals::Refusal;
 use std::cmp::Ordering;
 
@@ -230,4 +230,10 @@ impl PartialOrd for HyperDual {
     fn partial_cmp(&self, other: &HyperDual) -> Option<Ordering> {
         self.re.partial_cmp(&other.re)
     }
+}
+
+impl Compared for HyperDual {
+    ghost equal = { λ x y. refl };
+
+    ghost ordered = { λ x y. refl };
 }

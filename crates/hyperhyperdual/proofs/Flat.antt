@@ -5,7 +5,7 @@ use Rattle.algebra.proofs.Flat.{decode_length}
 use Rattle.algebra.proofs.Cells.{read_held, write_held}
 use Rattle.hyperhyperdual.specs.declared.HyperHyperDual.{HyperHyperDual}
 use Rattle.hyperhyperdual.specs.Rules.{hyper_hyper_dual, hyper_hyper_dual_algebra, hyper_hyper_dual_layout, hyper_hyper_dual_records}
-pub use Rattle.hyperhyperdual.specs.Laws.{hyper_hyper_dual_lawful, hyper_hyper_dual_agrees, hyper_hyper_dual_laws}
+use Rattle.hyperhyperdual.specs.Laws.{hyper_hyper_dual_lawful, hyper_hyper_dual_laws}
 
 pub hyper_hyper_dual_held : (l : List Float) → length (hyper_hyper_dual_records l) ≡ length l / 8
 hyper_hyper_dual_held = decode_length hyper_hyper_dual_layout hyper_hyper_dual_lawful

@@ -1,6 +1,4 @@
 -- Laws of `HyperHyperDual`; those that the crates above cite are public.
--- real parts come from real parts alone
-pub mod RealParts
 -- records in flat floats
 pub mod Flat
 -- this crate's promises leave one answer each, and values of the source's examples

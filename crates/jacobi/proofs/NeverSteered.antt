@@ -6,18 +6,18 @@ use lib.ListN.{length}
 use borrow.Fn.Kinds.{Dens, ended_of}
 use contract.Lifetimes.{Lfts}
 use denote.Triple.Clauses.{Lasts, at_exit}
+use Rattle.std.specs.Prelude.{ℕ, Result}
+use Rattle.refusals.specs.declared.Refusal.{Refusal}
+use Rattle.algebra.specs.Outcome.{outcome}
+use Rattle.algebra.proofs.Outcomes.{outcome_one}
 use Rattle.dual.specs.Rules.{dual_algebra, dual_layout}
-use Rattle.dual.proofs.Flat.{dual_lawful, dual_agrees}
-use Rattle.dual.proofs.RealParts.{dual_reals}
+use Rattle.dual.specs.Laws.{dual_lawful, dual_agrees, dual_reals}
 use Rattle.jacobi.specs.Entry.{JacobiLeft, jacobi_answered, jacobi_left}
-use Rattle.jacobi.specs.Answer.{outcome}
 use Rattle.jacobi.specs.SameReals.{SameAbove, SameJacobi}
-use Rattle.jacobi.specs.declared.JacobiAnswer.{JacobiAnswer}
 use Rattle.jacobi.proofs.Slopes.{jacobi_same, below_no_effect}
-use Rattle.jacobi.proofs.OneAnswer.{jacobi_one}
 use Rattle.jacobi.proofs.jacobi_eigenvalue as entry
 
-module _ (κs κs' : Lfts 3) (a : Dens κs entry.Kinds.ps) (a' : Dens κs' entry.Kinds.ps) (x x' : JacobiAnswer)
+module _ (κs κs' : Lfts 3) (a : Dens κs entry.Kinds.ps) (a' : Dens κs' entry.Kinds.ps) (x x' : Result ℕ Refusal)
     (v : Lasts (ended_of 3 entry.Kinds.ps entry.Kinds.r) κs a) (v' : Lasts (ended_of 3 entry.Kinds.ps entry.Kinds.r) κs' a')
     (p : entry.Reads.Post κs a x (at_exit (ended_of 3 entry.Kinds.ps entry.Kinds.r) κs a v))
     (p' : entry.Reads.Post κs' a' x' (at_exit (ended_of 3 entry.Kinds.ps entry.Kinds.r) κs' a' v'))
@@ -40,4 +40,4 @@ module _ (κs κs' : Lfts 3) (a : Dens κs entry.Kinds.ps) (a' : Dens κs' entry
   jacobi_below_unread alike d w =
       let e = p ∙ below_no_effect dual_algebra dual_layout dual_lawful dual_agrees a.0 a.1.0.now a'.1.0.now a.1.1.0 a.1.1.1.0.now a.1.1.1.1.0.now alike
       ∙ (λ i. jacobi_left dual_algebra dual_layout a.0 a'.1.0.now a.1.1.0 (d i) (w i)) ∙ sym second in
-      (jacobi_one x x' (ap (λ (l : JacobiLeft). l.answer) e), (ap (λ (l : JacobiLeft). l.values) e, ap (λ (l : JacobiLeft). l.vectors) e))
+      (outcome_one x x' (ap (λ (l : JacobiLeft). l.answer) e), (ap (λ (l : JacobiLeft). l.values) e, ap (λ (l : JacobiLeft). l.vectors) e))

@@ -1,17 +1,13 @@
 -- The values put in order with their columns, and the run whole. Assumes nothing.
-use Prim.Native.Nat.{ℕ, ◌+◌, ◌*◌, ◌≤◌, ◌<◌}
+use Prim.Native.Nat.{ℕ}
 use mathlib.Core.Path.{◌≡◌, ap, sym, ◌∙◌}
 use mathlib.Core.Bool.{Bool, true, false, cond}
 use mathlib.Core.List.{List}
-use lib.ListN.{length}
-use lib.Ieee.{Float, lt}
+use lib.Ieee.{lt}
 use borrow.Author.Tests.{eq-eqb, ne_eqb}
 use Rattle.algebra.specs.Algebra.{Algebra, zero_of}
 use Rattle.algebra.specs.Loop.{upto}
-use Rattle.algebra.proofs.Loop.{upto_turn, upto_end}
-use Rattle.dual.specs.Rules.{dual_algebra, dual_records}
-use Rattle.dual.specs.declared.Dual.{Dual}
-use Rattle.matrices.specs.Matrix.{Square, exchange}
+use Rattle.matrices.specs.Matrix.{exchange}
 use Rattle.rotations.specs.Rotation.{item}
 use Rattle.jacobi.specs.Sort.{Pairs, pairs, eigen, ended, smaller, least, exchange_columns, bring_smallest, select, sort, ordered, jacobi_of}
 use Rattle.jacobi.specs.Sweeps.{Run, start, step, sweeps_of}
@@ -51,17 +47,3 @@ module _ {R : Type 0} (A : Algebra R) (n : ℕ) where
   unfolding jacobi_of ordered sweeps_of
   run_by limit a r values vectors values' vectors' sweeps rotations stopped e1 e2 e3 =
       ap (λ (p : Pairs R). eigen p.d p.v sweeps rotations stopped) e3 ∙ ap (ordered A n) (e2 ∙ ap (λ (t : Run R). ended (upto 0 limit (step A n) t)) e1)
-
--- before place k of those below `last`: what is left to run gives the whole
-pub record Sorting (n last : ℕ) (whole : Pairs Dual) (d v : List Float) (k : ℕ) : Type 0 where
-  pub inside : last < n
-  pub values : length d ≡ n * 2
-  pub square : Square 2 n v
-  pub rest : upto k last (select dual_algebra n) (pairs (dual_records d) (dual_records v)) ≡ whole
-
-module _ (n last : ℕ) (whole : Pairs Dual) (d v : List Float) (k : ℕ) (s : Sorting n last whole d v k) where
-  pub sort_turn : (d' v' : List Float) → k < last → length d' ≡ length d → Square 2 n v' → pairs (dual_records d') (dual_records v') ≡ select dual_algebra n k (pairs (dual_records d) (dual_records v)) → Sorting n last whole d' v' (k + 1)
-  sort_turn d' v' h l q e = record { inside = s.inside; values = l ∙ s.values; square = q; rest = upto_turn k last (select dual_algebra n) (pairs (dual_records d) (dual_records v)) (pairs (dual_records d') (dual_records v')) h e s.rest }
-
-  pub sort_end : last ≤ k → pairs (dual_records d) (dual_records v) ≡ whole
-  sort_end h = upto_end k last (select dual_algebra n) (pairs (dual_records d) (dual_records v)) h s.rest

@@ -1,7 +1,7 @@
 -- Of the contract itself. What a result buffer held before has no effect: two calls with equal inputs, and result's buffers of equal lengths, give the same answer and
 -- sweep count, and where they are done leave the same, whole. A refused call writes nothing. `κs`, `a`, `x`, `v` are a call's lifetimes, arguments, answer and buffers at
 -- exit; `κs'`, `a'`, `x'`, `v'` another's. Assumes nothing.
-use Prim.Native.Nat.{ℕ}
+use Rattle.std.specs.Prelude.{ℕ, Result}
 use mathlib.Core.Path.{◌≡◌, refl, ap, sym, subst, ◌∙◌}
 use mathlib.Core.Bool.{Bool, true, false, cond}
 use mathlib.Core.List.{List}
@@ -13,14 +13,13 @@ use contract.Lifetimes.{Lfts}
 use denote.Triple.Clauses.{Lasts, at_exit}
 use Rattle.algebra.specs.Algebra.{Algebra}
 use Rattle.algebra.specs.Flat.{Layout, decode}
-use Rattle.algebra.specs.Outcome.{refused}
+use Rattle.refusals.specs.declared.Refusal.{Refusal}
+use Rattle.algebra.specs.Outcome.{refused, outcome}
 use Rattle.dual.specs.Rules.{dual_algebra, dual_layout}
 use Rattle.matrices.proofs.Answers.{not_both}
-use Rattle.jacobi.specs.Answer.{outcome}
 use Rattle.jacobi.specs.Entry.{jacobi_refusal, JacobiLeft, jacobi_answered, jacobi_done, jacobi_left}
 use Rattle.jacobi.specs.PreviousContents.{EqualJacobi}
 use Rattle.jacobi.specs.Sort.{jacobi_of}
-use Rattle.jacobi.specs.declared.JacobiAnswer.{JacobiAnswer}
 use Rattle.jacobi.proofs.jacobi_eigenvalue as entry
 
 -- over any record, by the two ways out
@@ -44,7 +43,7 @@ module _ {R : Type 0} (A : Algebra R) (L : Layout R) (n : ℕ) (a : List Float) 
       go true k e = absurd (not_both e)
       go false k e = (refl, refl)
 
-module _ (κs : Lfts 3) (a : Dens κs entry.Kinds.ps) (x : JacobiAnswer) (v : Lasts (ended_of 3 entry.Kinds.ps entry.Kinds.r) κs a) (p : entry.Reads.Post κs a x (at_exit (ended_of 3 entry.Kinds.ps entry.Kinds.r) κs a v)) where
+module _ (κs : Lfts 3) (a : Dens κs entry.Kinds.ps) (x : Result ℕ Refusal) (v : Lasts (ended_of 3 entry.Kinds.ps entry.Kinds.r) κs a) (p : entry.Reads.Post κs a x (at_exit (ended_of 3 entry.Kinds.ps entry.Kinds.r) κs a v)) where
   -- a call that is refused leaves both buffers as they were
   pub jacobi_nothing_written : (number : ℕ) → outcome x ≡ refused number → (v.1.1.1.0 ≡ a.1.1.1.0.now) × (v.1.1.1.1.0 ≡ a.1.1.1.1.0.now)
   jacobi_nothing_written number e =
@@ -52,7 +51,7 @@ module _ (κs : Lfts 3) (a : Dens κs entry.Kinds.ps) (x : JacobiAnswer) (v : La
       (ap (λ (l : JacobiLeft). l.values) p ∙ k.0, ap (λ (l : JacobiLeft). l.vectors) p ∙ k.1)
 
   -- two calls with the same size, matrix and limit, whatever the result's buffers held
-  pub jacobi_previous_contents : (κs' : Lfts 3) (a' : Dens κs' entry.Kinds.ps) (x' : JacobiAnswer) (v' : Lasts (ended_of 3 entry.Kinds.ps entry.Kinds.r) κs' a') → entry.Reads.Post κs' a' x' (at_exit (ended_of 3 entry.Kinds.ps entry.Kinds.r) κs' a' v')
+  pub jacobi_previous_contents : (κs' : Lfts 3) (a' : Dens κs' entry.Kinds.ps) (x' : Result ℕ Refusal) (v' : Lasts (ended_of 3 entry.Kinds.ps entry.Kinds.r) κs' a') → entry.Reads.Post κs' a' x' (at_exit (ended_of 3 entry.Kinds.ps entry.Kinds.r) κs' a' v')
       → a.0 ≡ a'.0 → a.1.0.now ≡ a'.1.0.now → a.1.1.0 ≡ a'.1.1.0
       → length a.1.1.1.0.now ≡ length a'.1.1.1.0.now → length a.1.1.1.1.0.now ≡ length a'.1.1.1.1.0.now
       → EqualJacobi (jacobi_answered (outcome x) v.1.1.1.0 v.1.1.1.1.0) (jacobi_answered (outcome x') v'.1.1.1.0 v'.1.1.1.1.0)

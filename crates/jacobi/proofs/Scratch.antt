@@ -1,6 +1,6 @@
 -- Scratch and lent floats of the lengths that a run asks, and what is written over them whole. Over any record. Assumes nothing.
 use Prim.Native.Nat.{ℕ, ◌*◌, ◌≤◌}
-use mathlib.Core.Path.{◌≡◌, ap, sym, ◌∙◌}
+use mathlib.Core.Path.{◌≡◌, ap, ◌∙◌}
 use mathlib.Core.List.{List}
 use native.Mathlib.Omega.{arith}
 use native.Mathlib.Nat.{mul-le-mul, mul-le-mul_right}
@@ -14,32 +14,23 @@ use Rattle.algebra.specs.Flat.{Layout, decode}
 use Rattle.algebra.proofs.Flat.{decode_blank}
 use Rattle.algebra.proofs.Laws.{Laws}
 use Rattle.matrices.specs.Matrix.{Square}
+use Rattle.rotations.specs.Vector.{Vector}
 
 -- a square of `Dual` records by its size
 pub square_of : (n : ℕ) (l : List Float) → n ≤ largest.n → length l ≡ n * n * 2 → Square 2 n l
 square_of n l h e = record { small = h; some = omega arith; narrow = omega arith; full = e }
 
--- what n asks for fits a scratch made for the bound: a matrix, and a row
-pub matrix_fits : (bound n : ℕ) → n ≤ bound → n * n * 2 ≤ bound * bound * 2
-matrix_fits bound n h = mul-le-mul_right 2 (mul-le-mul h h)
-
-pub row_fits : (bound n : ℕ) → n ≤ bound → n * 2 ≤ bound * 2
-row_fits bound n h = mul-le-mul_right 2 h
+-- what n asks for fits a scratch made for the bound: a matrix and a row
+pub scratch_fits : (bound n : ℕ) → n ≤ bound → (n * n * 2 ≤ bound * bound * 2) × (n * 2 ≤ bound * 2)
+scratch_fits bound n h = (mul-le-mul_right 2 (mul-le-mul h h), mul-le-mul_right 2 h)
 
 -- the first k of m zeros are k floats
-pub scratch : (k m : ℕ) → k ≤ m → k ≡ length (take k (replicate m float.zero))
-scratch k m h = sym (length-take-le k (replicate m float.zero) (rw length-replicate h))
+pub scratch : (k m : ℕ) → k ≤ m → length (take k (replicate m float.zero)) ≡ k
+scratch k m h = length-take-le k (replicate m float.zero) (rw length-replicate h)
 
--- so a scratch made for the bound holds a matrix, and a row
-pub matrix_scratch : (bound n : ℕ) → n ≤ bound → n * n * 2 ≡ length (take (n * n * 2) (replicate (bound * bound * 2) float.zero))
-matrix_scratch bound n h = scratch (n * n * 2) (bound * bound * 2) (matrix_fits bound n h)
-
-pub row_scratch : (bound n : ℕ) → n ≤ bound → n * 2 ≡ length (take (n * 2) (replicate (bound * 2) float.zero))
-row_scratch bound n h = scratch (n * 2) (bound * 2) (row_fits bound n h)
-
--- and is as `run` asks
-pub scratch_suits : (bound n : ℕ) → n ≤ bound → n ≤ largest.n → Square 2 n (take (n * n * 2) (replicate (bound * bound * 2) float.zero)) × (length (take (n * 2) (replicate (bound * 2) float.zero)) ≡ n * 2)
-scratch_suits bound n h small = (square_of n _ small (sym (matrix_scratch bound n h)), sym (row_scratch bound n h))
+-- floats that keep their length hold as many records
+pub vector_kept : (n : ℕ) (l l' : List Float) → Vector n l → length l' ≡ length l → Vector n l'
+vector_kept n l l' v e = record { full = e ∙ v.full }
 
 module _ {R : Type 0} {A : Algebra R} {L : Layout R} (Q : Laws A L) where
   -- floats of k records, cleared, are k records of zero

@@ -2,14 +2,14 @@
 use Prim.Native.Nat.{ℕ, ◌*◌}
 use mathlib.Core.Path.{◌≡◌, ap, ◌∙◌}
 use mathlib.Core.List.{List}
-use lib.ListN.{length, replicate}
+use lib.ListN.{length, replicate, set}
 use lib.Ieee.{Float}
 use Rattle.real.specs.Operations as float
 use Rattle.algebra.specs.Algebra.{Algebra, zero_of}
 use Rattle.algebra.specs.Flat.{Layout, decode}
 use Rattle.algebra.specs.Loop.{upto}
 use Rattle.algebra.proofs.Laws.{Laws}
-use Rattle.matrices.specs.Matrix.{Square}
+use Rattle.matrices.specs.Matrix.{Square, cell}
 use Rattle.rotations.specs.Rotation.{work}
 use Rattle.jacobi.specs.Sweeps.{going, put_one, identity, put_diagonal, diagonal, start}
 use Rattle.jacobi.proofs.Scratch.{blank}
@@ -23,12 +23,12 @@ module _ {R : Type 0} {A : Algebra R} {L : Layout R} (Q : Laws A L) (n : ℕ) wh
   unfolding diagonal
   diagonal_by a d d₁ d₂ s e p = p ∙ ap (upto 0 n (put_diagonal A n a)) (blank Q n d d₁ s e)
 
-  -- and a copy of it
-  pub diagonal_copied : (a : List R) (d d₁ d₂ b : List Float) → b ≡ d₂ → length d ≡ n * L.width → d₁ ≡ replicate (length d) float.zero → decode L d₂ ≡ upto 0 n (put_diagonal A n a) (decode L d₁)
-      → decode L b ≡ diagonal A n a
-  diagonal_copied a d d₁ d₂ b c s e p = ap (decode L) c ∙ diagonal_by a d d₁ d₂ s e p
-
   pub start_by : (a w v d zw bw : List Float) → w ≡ a → decode L v ≡ identity A n → decode L d ≡ diagonal A n (decode L a) → decode L bw ≡ diagonal A n (decode L a) → decode L zw ≡ replicate n (zero_of A)
       → going (work (decode L w) (decode L v) (decode L d) (decode L zw) 0) (decode L bw) 0 ≡ start A n (decode L a)
   unfolding start
   start_by a w v d zw bw ew ev ed eb ez = λ i. going (work (decode L (ew i)) (ev i) (ed i) (ez i) 0) (eb i) 0
+
+  -- one entry of the diagonal more, read from a matrix that is as it was
+  pub diagonal_turn : (a b d d' : List R) (m i : ℕ) (x : R) → m ≡ n → b ≡ a → x ≡ cell A m b i i → d' ≡ set d i x → d' ≡ put_diagonal A n a i d
+  unfolding put_diagonal
+  diagonal_turn a b d d' m i x em eb ex ed = ed ∙ ap (set d i) (ex ∙ (λ j. cell A (em j) (eb j) i i))

@@ -3,7 +3,6 @@ use Prim.Native.Nat.{ℕ, ◌+◌, ◌*◌, ◌≤◌, ◌<◌}
 use mathlib.Core.Path.{◌≡◌, refl, ap, sym, ◌∙◌}
 use mathlib.Core.Bool.{Bool, true, false, cond}
 use mathlib.Core.List.{List}
-use native.Mathlib.Nat.{mul-le-mul_right}
 use native.Mathlib.Omega.{arith}
 use lib.Dec.{T}
 use lib.ListN.{length, replicate}
@@ -17,15 +16,16 @@ use Rattle.algebra.specs.Algebra.{Algebra, zero_of}
 use Rattle.algebra.specs.Loop.{upto}
 use Rattle.algebra.proofs.Loop.{upto_keep, upto_step, upto_turn, upto_end}
 use Rattle.dual.specs.declared.Dual.{Dual}
-use Rattle.dual.specs.Rules.{dual_algebra, dual_records}
+use Rattle.dual.specs.Rules.{dual_algebra}
 use Rattle.matrices.specs.Matrix.{cell}
-use Rattle.rotations.specs.Buffers.{Sized, many_rotations, work_of}
+use Rattle.rotations.specs.declared.work.Work as lent
+use Rattle.rotations.specs.Vector.{Vector}
+use Rattle.rotations.specs.Buffers.{work_of, SameWork}
+use Rattle.rotations.proofs.Same.{same_work}
 use Rattle.rotations.specs.Rotation.{Work, work}
-use Rattle.jacobi.specs.Answer.{run_of, run_after, rotations_of}
-use Rattle.jacobi.specs.Sort.{eigen, ended}
+use Rattle.jacobi.specs.Answer.{eigen_of, run_of, run_after}
+use Rattle.jacobi.specs.Sort.{ended}
 use Rattle.jacobi.specs.Sweeps.{Run, going, settled, add_square, threshold_of, sweep, add_all, close_sweep, step}
-use Rattle.jacobi.specs.declared.AfterSweep.{AfterSweep}
-use Rattle.jacobi.specs.declared.AfterSweep.TheVariants.{Stopped, Swept}
 
 -- ---- the threshold
 
@@ -40,33 +40,28 @@ pub square_turn : {R : Type 0} (A : Algebra R) (n : ℕ) (a : List R) (j i : ℕ
 unfolding add_square
 square_turn {R = R} A n a j i sum whole x r h e = upto_turn i j (add_square A n a j) sum _ h (ap (λ (y : R). sum ⊕ A.re y ⊗ A.re y) e) r
 
--- ---- a loop over the buffers of a sweep
+-- ---- a loop over a sweep's work
 
 -- before turn i of those from lo on, each of which rotates at most `each` times: what is left to run gives the whole
-pub record Working (n : ℕ) (f : ℕ → Work Dual → Work Dual) (lo each rotations : ℕ) (whole : Work Dual) (a v d zw : List Float) (count i : ℕ) : Type 0 where
+pub record Working (f : ℕ → Work Dual → Work Dual) (lo each : ℕ) (first w : lent.Work) (whole : Work Dual) (i : ℕ) : Type 0 where
   pub from : lo ≤ i
-  pub within : i ≤ n
-  pub few : count + each * lo ≤ rotations + each * i
-  pub sized : Sized n a v d zw
-  pub rest : upto i n f (work_of a v d zw count) ≡ whole
+  pub within : i ≤ first.n
+  pub few : w.rotations + each * lo ≤ first.rotations + each * i
+  pub same : SameWork first w
+  pub rest : upto i first.n f (work_of w) ≡ whole
 
-module _ (n : ℕ) (f : ℕ → Work Dual → Work Dual) (lo each rotations : ℕ) (whole : Work Dual) (a v d zw : List Float) (count i : ℕ) (w : Working n f lo each rotations whole a v d zw count i) where
-  pub work_turn : (a' v' d' zw' : List Float) (more : ℕ) → i < n → Sized n a' v' d' zw' → work_of a' v' d' zw' more ≡ f i (work_of a v d zw count) → more ≤ count + each
-      → Working n f lo each rotations whole a' v' d' zw' more (i + 1)
-  work_turn a' v' d' zw' more h s e k = record {
-    from = omega (arith, w.from);
+module _ (f : ℕ → Work Dual → Work Dual) (lo each : ℕ) (first w : lent.Work) (whole : Work Dual) (i : ℕ) (s : Working f lo each first w whole i) where
+  pub work_turn : (w' : lent.Work) → i < first.n → SameWork w w' → work_of w' ≡ f i (work_of w) → w'.rotations ≤ w.rotations + each → Working f lo each first w' whole (i + 1)
+  work_turn w' h m e k = record {
+    from = omega (arith, s.from);
     within = omega arith;
-    few = let m : each * (i + 1) ≡ each * i + each = omega arith in omega (arith, w.few);
-    sized = s;
-    rest = upto_turn i n f (work_of a v d zw count) (work_of a' v' d' zw' more) h e w.rest;
+    few = let t : each * (i + 1) ≡ each * i + each = omega arith in omega (arith, s.few);
+    same = same_work first w w' s.same m;
+    rest = upto_turn i first.n f (work_of w) (work_of w') h e s.rest;
   }
 
-  pub work_end : n ≤ i → work_of a v d zw count ≡ whole
-  work_end h = upto_end i n f (work_of a v d zw count) h w.rest
-
-  -- the rotations so far
-  pub work_few : count ≤ rotations + each * largest.n
-  work_few = let m : i * each ≤ largest.n * each = mul-le-mul_right each (omega (arith, w.within, w.sized.matrix.small)) in omega (arith, w.few)
+  pub work_end : first.n ≤ i → work_of w ≡ whole
+  work_end h = upto_end i first.n f (work_of w) h s.rest
 
 -- ---- a sweep by its two cases
 
@@ -103,36 +98,30 @@ module _ {R : Type 0} (A : Algebra R) (n : ℕ) where
       sym (settled_stays (k + 1) limit w sweeps) ∙ ap (upto (k + 1) limit (step A n)) e ∙ sym (upto_step k limit (step A n) r h) ∙ i
 
 -- before sweep it-num: what is left to run gives the whole
-pub record Sweeping (n limit : ℕ) (whole : Run Dual) (a v d zw bw : List Float) (rotations it-num : ℕ) : Type 0 where
+pub record Sweeping (limit : ℕ) (first w : lent.Work) (bw : List Float) (whole : Run Dual) (it-num : ℕ) : Type 0 where
   pub within : it-num ≤ limit
-  pub few : rotations ≤ largest.n * largest.n * it-num
-  pub sums : length bw ≡ n * 2
-  pub sized : Sized n a v d zw
-  pub rest : upto it-num limit (step dual_algebra n) (run_of a v d zw bw rotations it-num) ≡ whole
+  pub few : w.rotations ≤ largest.n * largest.n * it-num
+  pub sums : Vector first.n bw
+  pub same : SameWork first w
+  pub rest : upto it-num limit (step dual_algebra first.n) (run_of w bw it-num) ≡ whole
 
-module _ (n limit : ℕ) (whole : Run Dual) (a v d zw bw : List Float) (rotations it-num : ℕ) (w : Sweeping n limit whole a v d zw bw rotations it-num) where
-  module _ (s : AfterSweep) (a' v' d' zw' bw' : List Float) (h : it-num < limit)
-      (e : run_after s a' v' d' zw' bw' rotations it-num ≡ step dual_algebra n it-num (run_of a v d zw bw rotations it-num)) where
-    pub sweeps_turn : (more : ℕ) → s ≡ Swept more → rotations_of s ≤ rotations + largest.n * largest.n → Sized n a' v' d' zw' → length bw' ≡ length bw → Sweeping n limit whole a' v' d' zw' bw' more (it-num + 1)
-    sweeps_turn more g k z l = record {
+module _ (limit : ℕ) (first w : lent.Work) (bw : List Float) (whole : Run Dual) (it-num : ℕ) (s : Sweeping limit first w bw whole it-num) where
+  module _ (w' : lent.Work) (bw' : List Float) (stopped : Bool) (h : it-num < limit) (e : run_after stopped w' bw' it-num ≡ step dual_algebra first.n it-num (run_of w bw it-num)) where
+    pub sweeps_turn : stopped ≡ false → w'.rotations ≤ w.rotations + largest.n * largest.n → length bw' ≡ length bw → SameWork w w' → Sweeping limit first w' bw' whole (it-num + 1)
+    sweeps_turn g k l m = record {
       within = omega arith;
-      few = omega (arith, ap rotations_of g, w.few);
-      sums = l ∙ w.sums;
-      sized = z;
-      rest = upto_turn it-num limit (step dual_algebra n) (run_of a v d zw bw rotations it-num) (run_of a' v' d' zw' bw' more (it-num + 1)) h
-          (sym (ap (λ (t : AfterSweep). run_after t a' v' d' zw' bw' rotations it-num) g) ∙ e) w.rest;
+      few = omega (arith, s.few);
+      sums = record { full = l ∙ s.sums.full };
+      same = same_work first w w' s.same m;
+      rest = upto_turn it-num limit (step dual_algebra first.n) (run_of w bw it-num) (run_of w' bw' (it-num + 1)) h (sym (ap (λ (t : Bool). run_after t w' bw' it-num) g) ∙ e) s.rest;
     }
 
-    pub sweeps_stop : s ≡ Stopped → eigen (dual_records d') (dual_records v') it-num rotations true ≡ ended whole
+    pub sweeps_stop : stopped ≡ true → eigen_of w' (record { sweeps = it-num; stopped = true }) ≡ ended whole
     sweeps_stop g =
-        ap ended (run_settles dual_algebra n it-num limit (run_of a v d zw bw rotations it-num) whole (work_of a' v' d' zw' rotations) it-num h
-        (sym (ap (λ (t : AfterSweep). run_after t a' v' d' zw' bw' rotations it-num) g) ∙ e) w.rest)
+        ap ended (run_settles dual_algebra first.n it-num limit (run_of w bw it-num) whole (work_of w') it-num h
+        (sym (ap (λ (t : Bool). run_after t w' bw' it-num) g) ∙ e) s.rest)
 
-  pub sweeps_end : limit ≤ it-num → eigen (dual_records d) (dual_records v) limit rotations false ≡ ended whole
+  pub sweeps_end : limit ≤ it-num → eigen_of w (record { sweeps = limit; stopped = false }) ≡ ended whole
   sweeps_end h =
-      ap (λ (k : ℕ). eigen (dual_records d) (dual_records v) k rotations false) (let m = w.within in omega arith)
-      ∙ ap ended (upto_end it-num limit (step dual_algebra n) (run_of a v d zw bw rotations it-num) h w.rest)
-
-  -- the rotations so far
-  pub sweeps_few : it-num < limit → limit ≤ largest.limit → rotations + largest.n * largest.n < many_rotations
-  sweeps_few h k = omega (arith, w.few)
+      ap (λ (k : ℕ). eigen_of w (record { sweeps = k; stopped = false })) (let m = s.within in omega arith)
+      ∙ ap ended (upto_end it-num limit (step dual_algebra first.n) (run_of w bw it-num) h s.rest)

@@ -6,34 +6,18 @@ mod prepare;
 mod sort;
 mod sweeps;
 
-ghost use Rattle.std.specs.Prelude.{◌≡◌, ◌*◌, ◌<◌, ◌≤◌, length};
+ghost use Rattle.std.specs.Prelude.{◌≡◌, ◌*◌, ◌<◌, ◌≤◌};
 ghost use Rattle.refusals.specs.Largest as largest;
-ghost use Rattle.algebra.specs.Outcome.{number_of};
+ghost use Rattle.refusals.specs.Refused.{answer_number};
+ghost use Rattle.algebra.specs.Outcome.{outcome};
 ghost use Rattle.dual.specs.Rules.{dual_algebra, dual_layout, dual_records};
 ghost use Rattle.matrices.specs.Matrix.{Square};
+ghost use Rattle.rotations.specs.Vector.{Vector};
 ghost use Rattle.jacobi.specs.Sort.{jacobi_of};
 ghost use Rattle.jacobi.specs.Entry.{jacobi_refusal, jacobi_answered, jacobi_left};
-ghost use Rattle.jacobi.specs.Scratch.{small_n};
-ghost use Rattle.jacobi.specs.Answer.{outcome, eigen_of};
 
-// The sweeps that did not stop at the threshold, or the number that the call is refused by.
-#[derive(Clone, Copy)]
-pub enum JacobiAnswer {
-    Done { sweeps: usize },
-    Refused { number: u32 },
-}
-
-impl JacobiAnswer {
-    // Document 01's number, 0 where the call is done.
-    pub fn number(self) -> u32
-        ensures { result ≡ number_of (outcome self) }
-    {
-        match self {
-            JacobiAnswer::Done { sweeps: _ } => 0,
-            JacobiAnswer::Refused { number } => number,
-        }
-    }
-}
+use refusals::Refusal;
+use rotations::work::Work;
 
 // The floats of a row, and of a matrix, at the largest n.
 const LARGEST_ROW: usize = refusals::LARGEST_N * 2;
@@ -47,142 +31,100 @@ const SMALL_ROW: usize = SMALL_N * 2;
 
 const SMALL_MATRIX: usize = SMALL_N * SMALL_ROW;
 
-// How the sweeps ended: their count, the rotations, and whether the threshold was zero at last.
-#[derive(Clone, Copy)]
+// How the sweeps ended: their count, and whether the threshold was zero at last.
+#[derive(Clone, Copy, Debug, PartialEq, Eq, Hash)]
 pub(crate) struct Ended {
     pub sweeps: usize,
-    pub rotations: usize,
     pub stopped: bool,
 }
 
-// Where a sweep leaves the run: stopped at a zero threshold, or swept, with the rotations so far.
-#[derive(Clone, Copy)]
-pub(crate) enum AfterSweep {
-    Stopped,
-    Swept { rotations: usize },
-}
-
-// The number of the first refusal that applies, 0 where none does.
-fn refusal(n: usize, a: usize, limit: usize, values: usize, vectors: usize) -> u32
-    ensures { result ≡ jacobi_refusal 2 n a limit values vectors }
+// The first refusal that applies.
+fn refuse(n: usize, a: usize, limit: usize, values: usize, vectors: usize) -> Result<(), Refusal>
+    ensures { answer_number result ≡ jacobi_refusal 2 n a limit values vectors }
 {
     if refusals::LARGEST_N < n {
-        return refusals::TOO_LARGE;
+        return Err(Refusal::TooLarge);
     }
     if n == 0 {
-        return refusals::EMPTY;
+        return Err(Refusal::Empty);
     }
     let full = n * n * 2;
-    if a != full {
-        return refusals::WRONG_LENGTH;
-    }
-    if values != n * 2 {
-        return refusals::WRONG_LENGTH;
-    }
-    if vectors != full {
-        return refusals::WRONG_LENGTH;
+    if a != full || values != n * 2 || vectors != full {
+        return Err(Refusal::WrongLength);
     }
     if refusals::LARGEST_LIMIT < limit {
-        return refusals::LIMIT_TOO_LARGE;
+        return Err(Refusal::LimitTooLarge);
     }
-    0
+    Ok(())
 }
 
-// The whole run, with a copy of the matrix and the two sums in w, bw and zw.
-fn run(
+// The whole run over the matrix a, with the sums bw. Gives back the sweeps that did not stop at the threshold.
+fn run(work: &mut Work, bw: &mut [f64], a: &[f64], limit: usize) -> usize
+    requires square { Square 2 work.old.n a.now }
+    requires sums { Vector work.old.n bw.old }
+    requires within { (0 < work.old.n) × (limit ≤ largest.limit) }
+    ensures same_values { work.new.d.ghost_name ≡ work.old.d.ghost_name }
+    ensures same_vectors { work.new.v.ghost_name ≡ work.old.v.ghost_name }
+    ensures values_after { dual_records work.new.d.now ≡ (jacobi_of dual_algebra work.old.n limit (dual_records a.now)).values }
+    ensures vectors_after { dual_records work.new.v.now ≡ (jacobi_of dual_algebra work.old.n limit (dual_records a.now)).vectors }
+    ensures sweeps { result ≡ (jacobi_of dual_algebra work.old.n limit (dual_records a.now)).sweeps }
+{
+    prepare::prepare(work, bw, a);
+    let ended = sweeps::sweeps(work, bw, limit);
+    sort::sort(work);
+    ended.sweeps
+}
+
+// The run with a scratch of so many floats for a matrix and for a row.
+fn run_within<const MATRIX: usize, const ROW: usize>(
     n: usize,
     a: &[f64],
     limit: usize,
-    w: &mut [f64],
-    bw: &mut [f64],
-    zw: &mut [f64],
     values: &mut [f64],
     vectors: &mut [f64],
-) -> Ended
+) -> usize
     requires square { Square 2 n a.now }
-    requires both_square { (Square 2 n w.old) × (Square 2 n vectors.old) }
-    requires sums_len { (length bw.old ≡ n * 2) × (length zw.old ≡ n * 2) }
-    requires values_len { length values.old ≡ n * 2 }
+    requires vectors_square { Square 2 n vectors.old }
+    requires values_len { Vector n values.old }
+    requires matrix_fits { (n * n * 2 ≤ MATRIX) × (MATRIX ≤ largest.n * largest.n * 2) }
+    requires row_fits { (n * 2 ≤ ROW) × (ROW ≤ largest.n * 2) }
     requires within { (0 < n) × (limit ≤ largest.limit) }
-    ensures { eigen_of values.new vectors.new result ≡ jacobi_of dual_algebra n limit (dual_records a.now) }
-{
-    prepare::prepare(n, a, w, bw, zw, values, vectors);
-    let e = sweeps::sweeps(n, w, vectors, values, zw, bw, limit);
-    sort::sort(n, values, vectors);
-    e
-}
-
-// The run with a scratch for small n.
-fn run_small(n: usize, a: &[f64], limit: usize, values: &mut [f64], vectors: &mut [f64]) -> Ended
-    requires square { Square 2 n a.now }
-    requires vectors_square { Square 2 n vectors.old }
-    requires values_len { length values.old ≡ n * 2 }
-    requires size { (0 < n) × (n ≤ small_n) }
-    requires limit_allowed { limit ≤ largest.limit }
-    ensures { eigen_of values.new vectors.new result ≡ jacobi_of dual_algebra n limit (dual_records a.now) }
+    ensures values_after { dual_records values.new ≡ (jacobi_of dual_algebra n limit (dual_records a.now)).values }
+    ensures vectors_after { dual_records vectors.new ≡ (jacobi_of dual_algebra n limit (dual_records a.now)).vectors }
+    ensures sweeps { result ≡ (jacobi_of dual_algebra n limit (dual_records a.now)).sweeps }
 {
     let full = n * n * 2;
     let row = n * 2;
-    let mut w = [0.0f64; SMALL_MATRIX];
-    let mut bw = [0.0f64; SMALL_ROW];
-    let mut zw = [0.0f64; SMALL_ROW];
-    run(
+    let mut w = [0.0f64; MATRIX];
+    let mut bw = [0.0f64; ROW];
+    let mut zw = [0.0f64; ROW];
+    let mut work = Work {
         n,
-        a,
-        limit,
-        &mut w[..full],
-        &mut bw[..row],
-        &mut zw[..row],
-        values,
-        vectors,
-    )
-}
-
-// The run with a scratch for every n.
-fn run_large(n: usize, a: &[f64], limit: usize, values: &mut [f64], vectors: &mut [f64]) -> Ended
-    requires square { Square 2 n a.now }
-    requires vectors_square { Square 2 n vectors.old }
-    requires values_len { length values.old ≡ n * 2 }
-    requires size { (0 < n) × (n ≤ largest.n) }
-    requires limit_allowed { limit ≤ largest.limit }
-    ensures { eigen_of values.new vectors.new result ≡ jacobi_of dual_algebra n limit (dual_records a.now) }
-{
-    let full = n * n * 2;
-    let row = n * 2;
-    let mut w = [0.0f64; LARGEST_MATRIX];
-    let mut bw = [0.0f64; LARGEST_ROW];
-    let mut zw = [0.0f64; LARGEST_ROW];
-    run(
-        n,
-        a,
-        limit,
-        &mut w[..full],
-        &mut bw[..row],
-        &mut zw[..row],
-        values,
-        vectors,
-    )
+        a: &mut w[..full],
+        v: vectors,
+        d: values,
+        zw: &mut zw[..row],
+        rotations: 0,
+    };
+    run(&mut work, &mut bw[..row], a, limit)
 }
 
 // Eigenvalues and eigenvectors (a column each) of the matrix a, of which only the diagonal and the part above it are read; in order of the values' real parts.
-// The run makes at most `limit` sweeps. A refusal writes nothing.
+// The run makes at most `limit` sweeps, and the answer is how many did not stop at the threshold. A refusal writes nothing.
 pub fn jacobi_eigenvalue(
     n: usize,
     a: &[f64],
     limit: usize,
     values: &mut [f64],
     vectors: &mut [f64],
-) -> JacobiAnswer
+) -> Result<usize, Refusal>
     ensures { jacobi_answered (outcome result) values.new vectors.new ≡ jacobi_left dual_algebra dual_layout n a.now limit values.old vectors.old }
 {
-    let number = refusal(n, a.len(), limit, values.len(), vectors.len());
-    if number != 0 {
-        return JacobiAnswer::Refused { number };
-    }
-    let e = if n <= SMALL_N {
-        run_small(n, a, limit, values, vectors)
+    refuse(n, a.len(), limit, values.len(), vectors.len())?;
+    let sweeps = if n <= SMALL_N {
+        run_within::<SMALL_MATRIX, SMALL_ROW>(n, a, limit, values, vectors)
     } else {
-        run_large(n, a, limit, values, vectors)
+        run_within::<LARGEST_MATRIX, LARGEST_ROW>(n, a, limit, values, vectors)
     };
-    JacobiAnswer::Done { sweeps: e.sweeps }
+    Ok(sweeps)
 }

@@ -1,16 +1,19 @@
 // What a run starts from.
-ghost use Rattle.std.specs.Prelude.{◌≡◌, ◌*◌, length, replicate};
-ghost use Rattle.algebra.specs.Algebra.{zero_of};
+// Kept: the loops run over the numbers of the diagonal, by which `Record` reads and writes in flat floats.
+ghost use Rattle.std.specs.Prelude.{◌≡◌};
 ghost use Rattle.algebra.specs.Loop.{upto};
 ghost use Rattle.dual.specs.Rules.{dual_algebra, dual_records};
 ghost use Rattle.matrices.specs.Matrix.{Square};
-ghost use Rattle.rotations.specs.Buffers.{Sized};
+ghost use Rattle.rotations.specs.Buffers.{SameWork};
+ghost use Rattle.rotations.specs.Vector.{Vector};
 ghost use Rattle.jacobi.specs.Sweeps as rule;
-ghost use Rattle.jacobi.specs.Sweeps.{diagonal, start, put_one, put_diagonal};
-ghost use Rattle.jacobi.specs.Answer.{run_of};
+ghost use Rattle.jacobi.specs.Sweeps.{start, put_one, put_diagonal};
+ghost use Rattle.jacobi.specs.Answer.{OthersKept, run_of};
 
-use dual::{Dual, write};
-use rotations::cells::{get, put};
+use dual::Dual;
+use records::Record;
+use rotations::cells::put;
+use rotations::work::Work;
 
 // One at each place of the diagonal.
 fn put_ones(n: usize, v: &mut [f64])
@@ -19,7 +22,7 @@ fn put_ones(n: usize, v: &mut [f64])
     ensures v_after { dual_records v.new ≡ upto 0 n (put_one dual_algebra n) (dual_records v.old) }
 {
     for i in 0..n {
-        put(n, v, i, i, Dual::ONE);
+        put(n, v, i, i, Dual::one());
     }
 }
 
@@ -33,49 +36,34 @@ fn identity(n: usize, v: &mut [f64])
     put_ones(n, v);
 }
 
-// The diagonal of a at the places of d.
-fn put_diagonal(n: usize, a: &[f64], d: &mut [f64])
-    requires square { Square 2 n a.now }
-    requires d_len { length d.old ≡ n * 2 }
-    ensures { dual_records d.new ≡ upto 0 n (put_diagonal dual_algebra n (dual_records a.now)) (dual_records d.old) }
+// The diagonal at the places of d and of bw.
+fn put_diagonal(work: &mut Work, bw: &mut [f64])
+    requires sums { Vector work.old.n bw.old }
+    ensures same { SameWork work.old work.new }
+    ensures others { OthersKept work.old work.new }
+    ensures d_after { dual_records work.new.d.now ≡ upto 0 work.old.n (put_diagonal dual_algebra work.old.n (dual_records work.old.a.now)) (dual_records work.old.d.now) }
+    ensures bw_after { dual_records bw.new ≡ upto 0 work.old.n (put_diagonal dual_algebra work.old.n (dual_records work.old.a.now)) (dual_records bw.old) }
 {
-    for i in 0..n {
-        write(d, i, get(n, a, i, i));
+    for i in 0..work.n {
+        let x = work.entry(i, i);
+        Dual::write(work.d, i, x);
+        Dual::write(bw, i, x);
     }
 }
 
-// d is the diagonal of a, bw is d, and zw is zero.
-fn start_sums(n: usize, a: &[f64], d: &mut [f64], bw: &mut [f64], zw: &mut [f64])
-    requires square { Square 2 n a.now }
-    requires d_len { length d.old ≡ n * 2 }
-    requires sums_len { (length bw.old ≡ n * 2) × (length zw.old ≡ n * 2) }
-    ensures d_after { dual_records d.new ≡ diagonal dual_algebra n (dual_records a.now) }
-    ensures bw_after { dual_records bw.new ≡ diagonal dual_algebra n (dual_records a.now) }
-    ensures zw_after { dual_records zw.new ≡ replicate n (zero_of dual_algebra) }
+// Everything that the sweeps start from: d is the diagonal of a, bw is d, and zw is zero.
+pub(crate) fn prepare(work: &mut Work, bw: &mut [f64], a: &[f64])
+    requires square { Square 2 work.old.n a.now }
+    requires sums { Vector work.old.n bw.old }
+    ensures same { SameWork work.old work.new }
+    ensures fresh { work.new.rotations ≡ 0 }
+    ensures run_after { run_of work.new bw.new 0 ≡ start dual_algebra work.old.n (dual_records a.now) }
 {
-    floats::clear(d);
-    put_diagonal(n, a, d);
-    floats::copy(d, bw);
-    floats::clear(zw);
-}
-
-// Everything that the sweeps start from: w is a copy of a.
-pub(crate) fn prepare(
-    n: usize,
-    a: &[f64],
-    w: &mut [f64],
-    bw: &mut [f64],
-    zw: &mut [f64],
-    d: &mut [f64],
-    v: &mut [f64],
-)
-    requires square { Square 2 n a.now }
-    requires sized { Sized n w.old v.old d.old zw.old }
-    requires bw_len { length bw.old ≡ n * 2 }
-    ensures still_sized { Sized n w.new v.new d.new zw.new }
-    ensures run_after { run_of w.new v.new d.new zw.new bw.new 0 0 ≡ start dual_algebra n (dual_records a.now) }
-{
-    floats::copy(a, w);
-    identity(n, v);
-    start_sums(n, a, d, bw, zw);
+    floats::copy(a, work.a);
+    identity(work.n, work.v);
+    floats::clear(work.d);
+    floats::clear(work.zw);
+    floats::clear(bw);
+    put_diagonal(work, bw);
+    work.rotations = 0;
 }

@@ -1,43 +1,44 @@
 // The values in order of their real parts, their vectors' columns with them.
-ghost use Rattle.std.specs.Prelude.{◌≡◌, ◌+◌, ◌*◌, ◌<◌, length};
+// Kept: the loops run over the numbers of columns and of rows, by which values and vectors are read and exchanged in flat floats.
+ghost use Rattle.std.specs.Prelude.{◌≡◌, ◌<◌};
 ghost use Rattle.dual.specs.Rules.{dual_algebra, dual_records};
 ghost use Rattle.matrices.specs.Matrix.{Square};
+ghost use Rattle.rotations.specs.Buffers.{SameWork};
 ghost use Rattle.jacobi.specs.Sort as rule;
 ghost use Rattle.jacobi.specs.Answer.{pairs_of};
 
-use dual::read;
 use rotations::cells::exchange;
+use rotations::work::Work;
 
 // The place of the smaller of two values, m where neither is.
-fn smaller(n: usize, d: &[f64], l: usize, m: usize) -> usize
-    requires d_len { length d.now ≡ n * 2 }
-    requires places_in_range { (l < n) × (m < n) }
-    ensures value { result ≡ rule.smaller dual_algebra n (dual_records d.now) l m }
-    ensures in_range { result < n }
+#[tactic(auto, using(crate::proofs::Ordered::smaller_moves, crate::proofs::Ordered::smaller_stays))]
+fn smaller(work: &Work, l: usize, m: usize) -> usize
+    requires places_in_range { (l < work.now.n) × (m < work.now.n) }
+    ensures value { result ≡ rule.smaller dual_algebra work.now.n (dual_records work.now.d.now) l m }
+    ensures in_range { result < work.now.n }
 {
-    let x = read(d, l);
-    let y = read(d, m);
-    if x.re < y.re {
+    if work.value(l).re < work.value(m).re {
         return l;
     }
     m
 }
 
 // The place of the least value from k on, the first of equals.
-fn least(n: usize, d: &[f64], k: usize) -> usize
-    requires d_len { length d.now ≡ n * 2 }
-    requires k_lt_n { k < n }
-    ensures value { result ≡ rule.least dual_algebra n (dual_records d.now) k }
-    ensures in_range { result < n }
+#[tactic(auto, using(algebra::proofs::Loop::upto_turn, algebra::proofs::Loop::upto_end), unfolding(crate::specs::Sort::least))]
+fn least(work: &Work, k: usize) -> usize
+    requires k_lt_n { k < work.now.n }
+    ensures value { result ≡ rule.least dual_algebra work.now.n (dual_records work.now.d.now) k }
+    ensures in_range { result < work.now.n }
 {
     let mut m = k;
-    for l in k + 1..n {
-        m = smaller(n, d, l, m);
+    for l in k + 1..work.n {
+        m = smaller(work, l, m);
     }
     m
 }
 
 // Columns m and k exchanged.
+#[tactic(auto, using(rotations::proofs::Held::row_few))]
 fn exchange_columns(n: usize, v: &mut [f64], m: usize, k: usize)
     requires square { Square 2 n v.old }
     requires columns_in_matrix { (m < n) × (k < n) }
@@ -50,27 +51,26 @@ fn exchange_columns(n: usize, v: &mut [f64], m: usize, k: usize)
 }
 
 // The least value from k on brought to k, with its column.
-fn select(n: usize, d: &mut [f64], v: &mut [f64], k: usize)
-    requires sized { (length d.old ≡ n * 2) × Square 2 n v.old }
-    requires k_lt_n { k < n }
-    ensures square { Square 2 n v.new }
-    ensures pairs_after { pairs_of d.new v.new ≡ rule.select dual_algebra n k (pairs_of d.old v.old) }
+fn select(work: &mut Work, k: usize)
+    requires k_lt_n { k < work.old.n }
+    ensures same { SameWork work.old work.new }
+    ensures pairs_after { pairs_of work.new ≡ rule.select dual_algebra work.old.n k (pairs_of work.old) }
 {
-    let m = least(n, d, k);
+    let m = least(work, k);
     if m == k {
         return;
     }
-    exchange(d, m, k);
-    exchange_columns(n, v, m, k);
+    exchange(work.d, m, k);
+    exchange_columns(work.n, work.v, m, k);
 }
 
 // Every value in its place.
-pub(crate) fn sort(n: usize, d: &mut [f64], v: &mut [f64])
-    requires sized { (length d.old ≡ n * 2) × Square 2 n v.old }
-    requires n_nonzero { 0 < n }
-    ensures { pairs_of d.new v.new ≡ rule.sort dual_algebra n (pairs_of d.old v.old) }
+pub(crate) fn sort(work: &mut Work)
+    requires n_nonzero { 0 < work.old.n }
+    ensures same { SameWork work.old work.new }
+    ensures pairs_after { pairs_of work.new ≡ rule.sort dual_algebra work.old.n (pairs_of work.old) }
 {
-    for k in 0..n - 1 {
-        select(n, d, v, k);
+    for k in 0..work.n - 1 {
+        select(work, k);
     }
 }

@@ -3,20 +3,5 @@
 
 #![tactic(auto)]
 
-ghost use Rattle.std.specs.Prelude.{◌≡◌};
-ghost use Rattle.algebra.specs.Outcome.{number_of, outcome};
-
-use refusals::Refusal;
-
 // The bytes that the writer is lent.
 pub const PAGE: usize = 20480;
-
-// The documents' number of an answer of either, 0 where the call is done.
-pub fn number(answer: Result<usize, Refusal>) -> u32
-    ensures { result ≡ number_of (outcome answer) }
-{
-    match answer {
-        Ok(_) => 0,
-        Err(refusal) => refusal.number(),
-    }
-}

@@ -7,13 +7,13 @@ mod head;
 mod places;
 mod shape;
 
-ghost use Rattle.std.specs.Prelude.{◌≡◌, ◌<◌, ◌≤◌};
-ghost use Rattle.refusals.specs.Largest as largest;
+ghost use Rattle.std.specs.Prelude.{◌≡◌};
 ghost use Rattle.algebra.specs.Outcome.{outcome};
 ghost use Rattle.market.specs.Answers.{answered};
 ghost use Rattle.market.specs.Head.{size_of};
 ghost use Rattle.market.specs.Read.{read_left};
 
+use records::Record;
 use refusals::Refusal;
 use shape::Shape;
 
@@ -39,25 +39,9 @@ pub fn size(text: &[u8]) -> Result<usize, Refusal>
     Ok(opening.shape.n)
 }
 
-// The matrix in a text, its records `width` floats wide.
-// Kept: `read` and `read_hyperdual`, which docs/PROMISES.md names, in one line each: a const parameter would ask its callers for a `requires` on the width.
-fn read_wide(text: &[u8], width: usize, out: &mut [f64]) -> Result<usize, Refusal>
-    requires { (0 < width) × (width ≤ largest.width) }
-    ensures { answered (outcome result) out.new ≡ read_left width text.now out.old }
+// The matrix in a text as records, row by row: n² of them, the derivative parts zero. A refusal writes nothing.
+pub fn read<R: Record>(text: &[u8], out: &mut [f64]) -> Result<usize, Refusal>
+    ensures { answered (outcome result) out.new ≡ read_left R.layout.width text.now out.old }
 {
-    places::body(head::head(text)?, width, out)
-}
-
-// The matrix in a text into `Dual` records, row by row: 2n² floats, the derivative parts zero. A refusal writes nothing.
-pub fn read(text: &[u8], out: &mut [f64]) -> Result<usize, Refusal>
-    ensures { answered (outcome result) out.new ≡ read_left 2 text.now out.old }
-{
-    read_wide(text, 2, out)
-}
-
-// The same into `HyperDual` records: 4n² floats.
-pub fn read_hyperdual(text: &[u8], out: &mut [f64]) -> Result<usize, Refusal>
-    ensures { answered (outcome result) out.new ≡ read_left 4 text.now out.old }
-{
-    read_wide(text, 4, out)
+    places::body(head::head(text)?, R::width(), out)
 }

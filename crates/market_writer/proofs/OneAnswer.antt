@@ -1,25 +1,22 @@
--- No second outcome meets the promise of an entry: one answer, and one content of the lent bytes. Assumes nothing.
-use Rattle.std.proofs.Common.{◌≡◌, ℕ, sym, ap, ◌∙◌}
-use borrow.Fn.Kinds.{In, Dens, ended_of}
-use contract.Lifetimes.{Lfts}
+-- No second outcome meets the promise of the entry, over any record: one answer, and one content of the lent bytes. Assumes nothing.
+use mathlib.Core.Path.{ap, sym, ◌∙◌}
+use Prim.Native.Nat.{ℕ}
+use mir.Syntax.{Dict}
+use borrow.Fn.Kinds.{ended_of}
+use denote.RattleType.{RattleType}
+use denote.Param.Laws as param
 use denote.Triple.Clauses.{at_exit}
+use Rattle.std.specs.declared.clone.Clone as Clone
 use Rattle.real.proofs.Only.{Only}
-use Rattle.algebra.specs.Outcome.{outcome}
 use Rattle.algebra.proofs.Outcomes.{outcome_one}
-use Rattle.market.specs.Answers.{Left, answered}
+use Rattle.records.specs.declared.Record as Record
+use Rattle.market.specs.Answers.{Left}
 use Rattle.market_writer.proofs.write as write
-use Rattle.market_writer.proofs.write_hyperdual as hyperdual
 
--- over any record: an equation of the answer and the lent bytes
-write_only_by : (pre : In 2 write.Kinds.ps) (left : (κs : Lfts 2) → Dens κs write.Kinds.ps → Left ℕ) → Only 2 write.Kinds.ps write.Kinds.r pre (λ κs a x s. answered (outcome x) s.1.1.0.now ≡ left κs a)
-write_only_by pre left κs a x y v w h p q =
-    let e = p ∙ sym q in (
-      outcome_one x y (ap (λ (l : Left ℕ). l.answer) e),
-      λ i. at_exit (ended_of 2 write.Kinds.ps write.Kinds.r) κs a (v.0, (v.1.0, (ap (λ (l : Left ℕ). l.buffer) e i, tt))),
-    )
-
-pub write_only : Only 2 write.Kinds.ps write.Kinds.r write.Reads.Pre write.Reads.Post
-write_only = write_only_by write.Reads.Pre _
-
-pub write_hyperdual_only : Only 2 hyperdual.Kinds.ps hyperdual.Kinds.r hyperdual.Reads.Pre hyperdual.Reads.Post
-write_hyperdual_only = write_only_by hyperdual.Reads.Pre _
+module _ (T : RattleType) (l : param.Laws T) (c : param.IsCopy T) (G : Record.Ghosts T.Denot) (d : Dict) (C : Clone.Ghosts T.Denot) (k : Dict) where
+  pub write_only : Only 3 (write.Kinds.ps T l c) (write.Kinds.r T l c) (write.Reads.Pre T l c G d C k) (write.Reads.Post T l c G d C k)
+  write_only κs a x y v w h p q =
+      let e = p ∙ sym q in (
+        outcome_one x y (ap (λ (s : Left ℕ). s.answer) e),
+        λ i. at_exit (ended_of 3 (write.Kinds.ps T l c) (write.Kinds.r T l c)) κs a (v.0, (v.1.0, (ap (λ (s : Left ℕ). s.buffer) e i, tt))),
+      )

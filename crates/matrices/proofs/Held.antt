@@ -25,9 +25,9 @@ module _ {R : Type 0} {A : Algebra R} {L : Layout R} (Q : Laws A L) where
   pub square_held : (n i k : ℕ) (l : List Float) → Square L.width n l → i < n → k < n → i * n + k < length (decode L l)
   square_held n i k l s hi hk = held Q l (i * n + k) (inside L.width n i k l s hi hk).there
 
-  -- of a vector, by where its elements lie
-  pub strided_held : (n stride base i : ℕ) (l : List Float) → Strided L.width n stride base l → i < n → i * stride + base < length (decode L l)
-  strided_held n stride base i l s h = held Q l (i * stride + base) (s.inside i h)
+  -- of a vector, by where its elements lie: `at` is the place as the code has it
+  pub strided_held : (n stride base i at : ℕ) (l : List Float) → Strided L.width n stride base l → i < n → at ≡ i * stride + base → at < length (decode L l)
+  strided_held n stride base i at l s h e = rw e (held Q l (i * stride + base) (s.inside i h))
 
   -- of a vector that is all of the floats
   pub vector_held : (n k : ℕ) (l l' : List Float) → length l ≡ n * L.width → length l' ≡ length l → k < n → k < length (decode L l')

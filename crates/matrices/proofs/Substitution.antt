@@ -16,20 +16,25 @@ use Rattle.matrices.proofs.Inner.{forward_by, back_row-by}
 use Rattle.matrices.proofs.Turns.{Running, run_turn}
 
 module _ {R : Type 0} {A : Algebra R} {L : Layout R} (Q : Laws A L) where
-  pub forwarded : (n stride base i : ℕ) (a x x' : List Float) (u r : R) → Strided L.width n stride base x → i < n
-      → u ≡ get_or (decode L x) (i * stride + base) (zero_of A) → r ≡ less_row A n (decode L a) stride base i (decode L x) 0 i u
-      → decode L x' ≡ set (decode L x) (i * stride + base) r → decode L x' ≡ forward_row_from A n (decode L a) stride base i (decode L x)
-  forwarded n stride base i a x x' u r s h eu er e =
-      e ∙ ap (set (decode L x) (i * stride + base)) (er ∙ ap (less_row A n (decode L a) stride base i (decode L x) 0 i) eu)
-      ∙ sym (forward_by A n (decode L a) stride base s.some (decode L x) i (strided_held Q n stride base i x s h))
+  -- `at` is the place of element i as the code has it
+  pub forwarded : (n stride base i at : ℕ) (a x x' : List Float) (u r : R) → Strided L.width n stride base x → i < n → at ≡ i * stride + base
+      → u ≡ get_or (decode L x) at (zero_of A) → r ≡ less_row A n (decode L a) stride base i (decode L x) 0 i u
+      → decode L x' ≡ set (decode L x) at r → decode L x' ≡ forward_row_from A n (decode L a) stride base i (decode L x)
+  forwarded n stride base i at a x x' u r s h p eu er e =
+      e ∙ ap (set (decode L x) at) (er ∙ ap (less_row A n (decode L a) stride base i (decode L x) 0 i) eu)
+      ∙ (λ t. set (decode L x) (p t) (less_row A n (decode L a) stride base i (decode L x) 0 i (get_or (decode L x) (p t) (zero_of A))))
+      ∙ sym (forward_by A n (decode L a) stride base s.some (decode L x) i (strided_held Q n stride base i (i * stride + base) x s h refl))
 
-  pub backed : (n stride base i : ℕ) (a x x' : List Float) (u r v y : R) → Strided L.width n stride base x → i < n
-      → u ≡ get_or (decode L x) (i * stride + base) (zero_of A) → r ≡ less_row A n (decode L a) stride base i (decode L x) (i + 1) n u → v ≡ get_or (decode L a) (i * n + i) (zero_of A) → y ≡ A.div r v
-      → decode L x' ≡ set (decode L x) (i * stride + base) y → decode L x' ≡ back_row A n (decode L a) stride base i (decode L x)
+  pub backed : (n stride base i at : ℕ) (a x x' : List Float) (u r v y : R) → Strided L.width n stride base x → i < n → at ≡ i * stride + base
+      → u ≡ get_or (decode L x) at (zero_of A) → r ≡ less_row A n (decode L a) stride base i (decode L x) (i + 1) n u → v ≡ get_or (decode L a) (i * n + i) (zero_of A) → y ≡ A.div r v
+      → decode L x' ≡ set (decode L x) at y → decode L x' ≡ back_row A n (decode L a) stride base i (decode L x)
   unfolding cell
-  backed n stride base i a x x' u r v y s h eu er ev ey e =
-      e ∙ ap (set (decode L x) (i * stride + base)) (ey ∙ (λ t. A.div ((er ∙ ap (less_row A n (decode L a) stride base i (decode L x) (i + 1) n) eu) t) (ev t)))
-      ∙ sym (back_row-by A n (decode L a) stride base s.some (decode L x) i (strided_held Q n stride base i x s h))
+  backed n stride base i at a x x' u r v y s h p eu er ev ey e =
+      let row = λ (w : R). less_row A n (decode L a) stride base i (decode L x) (i + 1) n w in
+      let pivot = get_or (decode L a) (i * n + i) (zero_of A) in
+      e ∙ ap (set (decode L x) at) (ey ∙ (λ t. A.div ((er ∙ ap row eu) t) (ev t)))
+      ∙ (λ t. set (decode L x) (p t) (A.div (row (get_or (decode L x) (p t) (zero_of A))) pivot))
+      ∙ sym (back_row-by A n (decode L a) stride base s.some (decode L x) i (strided_held Q n stride base i (i * stride + base) x s h refl))
 
   -- the products of a row, taken from r
   abbrev pub Lessening : ℕ → List Float → List Float → ℕ → ℕ → ℕ → ℕ → ℕ → R → R → ℕ → Type 0

@@ -28,14 +28,14 @@ fn find_pivot(w: usize, n: usize, a: &[f64], i: usize) -> Pivot
     ensures { result ≡ pivot_of reals n (real_parts w a.now) i }
 {
     let row = n * w;
-    let mut at = i * row + i * w;
+    let column = i * w;
     let mut b = Pivot {
         magnitude: 0.0,
         row: i,
     };
+    // Kept: the range of rows is plainer than `(i..n).zip(a[i * row + column..].iter().step_by(row))`, which says the same place.
     for k in i..n {
-        b = better_row(a[at], k, b);
-        at += row;
+        b = better_row(a[k * row + column], k, b);
     }
     b
 }
@@ -47,6 +47,7 @@ fn exchange_rows(k: usize, a: &mut [f64], p: usize, q: usize)
 {
     let x = p * k;
     let y = q * k;
+    // Kept: both rows lie in one slice; std has no `swap_with_slice` for the two parts of a `split_at_mut`, and says nothing of what two zipped `iter_mut` leave.
     for c in 0..k {
         a.swap(x + c, y + c);
     }

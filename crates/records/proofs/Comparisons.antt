@@ -8,7 +8,7 @@ use Rattle.std.specs.declared.cmp.Ordering.{Ordering}
 use Rattle.std.specs.declared.cmp.Ordering.TheVariants.{Less, Equal, Greater}
 use Rattle.std.specs.declared.option.Option.{Option}
 use Rattle.std.specs.declared.option.Option.TheVariants.{None, Some}
-use Rattle.std.specs.Ordering.{is_lt, is_le, is_gt, is_ge, is_some_and, partial_lt, partial_le, partial_gt, partial_ge, float_partial_cmp, on}
+use Rattle.std.specs.Ordering.{is_lt, is_le, is_gt, is_ge, is_some_and, partial_lt, partial_le, partial_gt, partial_ge, float_partial_cmp}
 
 -- the answer from whether the first is less, equal or greater
 abbrev answer : Bool → Bool → Bool → Option Ordering
@@ -43,22 +43,26 @@ greater_or_equal false true false f g = refl
 greater_or_equal false false true f g = refl
 greater_or_equal false false false f g = refl
 
-module _ {K : Type 0} (f : K → Float) (x y : K) where
-  pub lt_by : partial_lt (on f float_partial_cmp) x y ≡ lt (f x) (f y)
-  lt_by = less (lt (f x) (f y)) (eq (f x) (f y)) (lt (f y) (f x))
+-- re is what x and y are ordered by, C what the order answers
+module _ {K : Type 0} (re : K → Float) (C : K → K → Option Ordering) (ordered : (x y : K) → C x y ≡ float_partial_cmp (re x) (re y)) (x y : K) where
+  not_both : T (lt (re x) (re y)) → ¬ (T (lt (re y) (re x)))
+  not_both h k = floats.lt_irrefl (re x) (floats.lt_trans (re x) (re y) (re x) h k)
 
-  pub le_by : partial_le (on f float_partial_cmp) x y ≡ le (f x) (f y)
+  pub lt_by : partial_lt C x y ≡ lt (re x) (re y)
+  lt_by = ap (is_some_and is_lt) (ordered x y) ∙ less (lt (re x) (re y)) (eq (re x) (re y)) (lt (re y) (re x))
+
+  pub le_by : partial_le C x y ≡ le (re x) (re y)
   unfolding le
-  le_by = less_or_equal (lt (f x) (f y)) (eq (f x) (f y)) (lt (f y) (f x))
+  le_by = ap (is_some_and is_le) (ordered x y) ∙ less_or_equal (lt (re x) (re y)) (eq (re x) (re y)) (lt (re y) (re x))
 
-  not_both : T (lt (f x) (f y)) → ¬ (T (lt (f y) (f x)))
-  not_both h k = floats.lt_irrefl (f x) (floats.lt_trans (f x) (f y) (f x) h k)
+  pub gt_by : partial_gt C x y ≡ lt (re y) (re x)
+  gt_by =
+      ap (is_some_and is_gt) (ordered x y)
+      ∙ greater (lt (re x) (re y)) (eq (re x) (re y)) (lt (re y) (re x)) not_both (λ e. floats.eq-not_lt (re y) (re x) (floats.eq_flip (re x) (re y) e))
 
-  pub gt_by : partial_gt (on f float_partial_cmp) x y ≡ lt (f y) (f x)
-  gt_by = greater (lt (f x) (f y)) (eq (f x) (f y)) (lt (f y) (f x)) not_both (λ e. floats.eq-not_lt (f y) (f x) (floats.eq_flip (f x) (f y) e))
-
-  pub ge_by : partial_ge (on f float_partial_cmp) x y ≡ le (f y) (f x)
+  pub ge_by : partial_ge C x y ≡ le (re y) (re x)
   unfolding le
   ge_by =
-      greater_or_equal (lt (f x) (f y)) (eq (f x) (f y)) (lt (f y) (f x)) not_both (floats.eq-not_lt (f x) (f y))
-      ∙ ap (λ (e : Bool). lt (f y) (f x) || e) (floats_per.symm (f x) (f y))
+      ap (is_some_and is_ge) (ordered x y)
+      ∙ greater_or_equal (lt (re x) (re y)) (eq (re x) (re y)) (lt (re y) (re x)) not_both (floats.eq-not_lt (re x) (re y))
+      ∙ ap (λ (e : Bool). lt (re y) (re x) || e) (floats_per.symm (re x) (re y))

@@ -8,6 +8,7 @@ mod functions;
 
 ghost use Rattle.std.specs.Prelude.{◌≡◌, ◌+◌, ◌*◌, ◌/◌, ◌<◌, ◌≤◌, ℕ, Float, not, length, get_or, set};
 ghost use Rattle.std.specs.Float.Ieee.{eq};
+ghost use Rattle.std.specs.Ordering.{float_partial_cmp};
 ghost use Rattle.real.specs.Operations.{zero, one};
 ghost use Rattle.real.specs.Sign.{sign_of};
 ghost use Rattle.algebra.specs.Algebra.{Algebra, zero_of, one_of, add_float, sub_float, magnitude};
@@ -246,6 +247,7 @@ pub trait Record: Copy {
     }
 
     // The sum of the records of a run, from zero, left to right. A length that is not whole records is refused.
+    // Kept: in `sum` and `product` a record is read by its number, since no iterator over floats gives records; a fold over the numbers with the operation is no plainer.
     final fn sum(floats: &[f64]) -> Result<Self, Refusal>
         ensures { outcome result ≡ sum_of layout algebra floats.now }
     {
@@ -284,6 +286,13 @@ pub trait ThirdDerivative: Record {
     {
         functions::sph_j1_series(self, sin, cos)
     }
+}
+
+// A type of records whose comparisons are those of the real part.
+pub trait Compared: Record + PartialOrd {
+    ghost equal: { (x y : Self) → Self.PartialEq.eq x y ≡ eq (Self.algebra.re x) (Self.algebra.re y) };
+
+    ghost ordered: { (x y : Self) → Self.PartialOrd.partial_cmp x y ≡ float_partial_cmp (Self.algebra.re x) (Self.algebra.re y) };
 }
 
 // The first float of record number `at` of `length` floats, at `width` floats a record: the record's floats all are there.

@@ -66,15 +66,28 @@ impl<R: Read> Reader<R> {
         None
     }
 
-    // Fills the lent words from the file's next ones, which are to have so many digits each.
-    pub fn read_words(&mut self, digits: u32, words: &mut [u64]) -> Result<(), Cut> {
-        let mut whole = true;
+    // Fills the lent words from the file's next ones, each of which is to be as the test says; 0 stands where there is none.
+    pub fn read_words_if<F: Fn(Word) -> bool>(
+        &mut self,
+        words: &mut [u64],
+        fits: F,
+    ) -> Result<(), Cut>
+        requires { F.IsAlwaysCallable fits }
+    {
+        let mut whole = Ok(());
         for word in words.iter_mut() {
             let read = self.next_word();
             *word = read.map_or(0, |w| w.value);
-            whole &= read.is_some_and(|w| w.digits == digits);
+            if !read.is_some_and(|w| fits(w)) {
+                whole = Err(Cut);
+            }
         }
-        if whole { Ok(()) } else { Err(Cut) }
+        whole
+    }
+
+    // The same, each with so many digits.
+    pub fn read_words(&mut self, digits: u32, words: &mut [u64]) -> Result<(), Cut> {
+        self.read_words_if(words, |w| w.digits == digits)
     }
 
     // The file's next bytes, so many, in lent ones.

@@ -45,11 +45,9 @@ impl Word {
     fn after(self, byte: u8) -> Seen
         ensures { result ≡ word_after self byte }
     {
-        let digit = texts::read::digit_value(byte);
-        if digit < 16 {
-            Seen::Digits(self.joined(digit))
-        } else {
-            Seen::Ended(None)
+        match texts::read::digit_value(byte) {
+            Some(digit) => Seen::Digits(self.joined(digit)),
+            None => Seen::Ended(None),
         }
     }
 }

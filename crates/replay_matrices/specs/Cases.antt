@@ -1,10 +1,10 @@
 -- What an entry leaves, compared with the words and numbers of a file. Definitions only.
-use Rattle.std.specs.Prelude.{ℕ, Bool, false, cond, ◌&&◌, List, eqb, length, replicate, Float}
+use Rattle.std.specs.Prelude.{ℕ, Bool, false, cond, ◌&&◌, List, eqb, length, replicate, Float, Result, Ok, Err}
 use Rattle.std.specs.Float.{binary64}
 use Rattle.std.specs.Float.Ieee.{to_bits}
-use Rattle.algebra.specs.Outcome.{Outcome, value, refused}
-use Rattle.matrices.specs.declared.LuAnswer.{LuAnswer}
-use Rattle.matrices.specs.declared.LuAnswer.TheVariants as lu
+use Rattle.algebra.specs.Outcome.{Outcome, value, refused, number_of}
+use Rattle.matrices.specs.Answers.{lu_outcome, lu_column}
+use Rattle.matrices.specs.declared.LuRefusal.{LuRefusal}
 use Rattle.replay.specs.Same.{has_words, same_numbers}
 use Rattle.replay_matrices.specs.declared.Numbers.{Numbers}
 
@@ -20,9 +20,9 @@ abbrev pub zero_floats : List Float → Bool
 zero_floats l = same_floats (replicate (length l) 0) l
 
 -- LU's answer: document 01's number, and the swap count or the column beside it
-abbrev pub lu_numbers : LuAnswer → Numbers
-lu_numbers (lu.Done swaps) = record { number = 0; swaps_or_column = swaps }
-lu_numbers (lu.Refused number column) = record { number = number; swaps_or_column = column }
+abbrev pub lu_numbers : Result ℕ LuRefusal → Numbers
+lu_numbers (Ok swaps) = record { number = 0; swaps_or_column = swaps }
+lu_numbers (Err refusal) = record { number = number_of (lu_outcome (Err refusal)); swaps_or_column = lu_column (Err refusal) }
 
 -- the numbers are the recorded ones, and the buffers too, or all zero where a refusal is recorded
 unfoldable pub same_lu : Numbers → List ℕ → List ℕ → Numbers → List ℕ → List Float → Bool

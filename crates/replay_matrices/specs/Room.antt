@@ -2,9 +2,9 @@
 use Rattle.std.specs.Prelude.{ℕ, ◌*◌}
 use Rattle.refusals.specs.Largest as largest
 
--- the floats of the widest record that matrices are of: `HyperDual`
+-- the floats of the widest record
 abbrev pub widest : ℕ
-widest = 4
+widest = largest.width
 
 -- those of the largest row, and of the largest matrix
 abbrev pub most_in_row : ℕ

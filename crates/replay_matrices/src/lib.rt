@@ -6,12 +6,13 @@
 ghost use Rattle.std.specs.Prelude.{◌≡◌, ◌*◌, ◌≤◌, length, get_or};
 ghost use Rattle.refusals.specs.Largest as largest;
 ghost use Rattle.algebra.specs.Flat.{tabulate};
-ghost use Rattle.algebra.specs.Outcome.{map_outcome};
-ghost use Rattle.matrices.specs.Answers.{solve_outcome};
+ghost use Rattle.algebra.specs.Outcome.{map_outcome, outcome};
 ghost use Rattle.replay_matrices.specs.Room.{widest, most_floats, most_in_row};
-ghost use Rattle.replay_matrices.specs.Cases.{lu_numbers, same_lu, same_outcome};
+ghost use Rattle.replay_matrices.specs.Cases.{same_floats, lu_numbers, same_lu, same_outcome};
 
-use matrices::{LuAnswer, SolveAnswer};
+use matrices::LuRefusal;
+use records::Record;
+use refusals::Refusal;
 use replay::same::{all_have, same_words};
 
 // Document 01's number, and the swap count or the column that stands beside it.
@@ -21,8 +22,8 @@ pub struct Numbers {
     pub swaps_or_column: u64,
 }
 
-// The floats of the widest record that matrices are of, `HyperDual`, and of the largest matrix and row of it.
-pub const WIDEST: usize = 4;
+// The floats of the widest record, and of the largest matrix and row of it.
+pub const WIDEST: usize = refusals::LARGEST_WIDTH;
 
 pub const MOST_FLOATS: usize = refusals::LARGEST_N * MOST_IN_ROW;
 
@@ -53,18 +54,28 @@ pub fn order_of(words: &[u64], order: &mut [usize])
     }
 }
 
+// Whether the words are those of the parts of a record.
+pub fn same_record<R: Record>(words: &[u64], x: R) -> bool
+    ensures { result ≡ same_floats words.now (R.layout.parts x) }
+{
+    let mut parts = [0.0; WIDEST];
+    let parts = &mut parts[..R::width()];
+    R::write(parts, 0, x);
+    same_words(words, parts)
+}
+
 // What LU answers, as two numbers.
-pub fn lu_numbers(answer: LuAnswer) -> Numbers
+pub fn lu_numbers(answer: Result<usize, LuRefusal>) -> Numbers
     ensures { result ≡ lu_numbers answer }
 {
     match answer {
-        LuAnswer::Done { swaps } => Numbers {
+        Ok(swaps) => Numbers {
             number: 0,
             swaps_or_column: swaps as u64,
         },
-        LuAnswer::Refused { number, column } => Numbers {
-            number: number as u64,
-            swaps_or_column: column as u64,
+        Err(refusal) => Numbers {
+            number: u64::from(refusal.number()),
+            swaps_or_column: refusal.column() as u64,
         },
     }
 }
@@ -75,7 +86,7 @@ pub fn same_lu(
     wanted: Numbers,
     numbers: &[u64],
     words: &[u64],
-    answer: LuAnswer,
+    answer: Result<usize, LuRefusal>,
     order: &[usize],
     factors: &[f64],
 ) -> bool
@@ -92,11 +103,8 @@ pub fn same_lu(
 }
 
 // Whether solve or inverse is done and leaves the file's floats.
-pub fn same_solved(words: &[u64], answer: SolveAnswer, left: &[f64]) -> bool
-    ensures { result ≡ same_outcome words.now (map_outcome (λ _. left.now) (solve_outcome answer)) }
+pub fn same_solved(words: &[u64], answer: Result<(), Refusal>, left: &[f64]) -> bool
+    ensures { result ≡ same_outcome words.now (map_outcome (λ _. left.now) (outcome answer)) }
 {
-    match answer {
-        SolveAnswer::Done => same_words(words, left),
-        SolveAnswer::Refused { number } => false,
-    }
+    answer.is_ok() && same_words(words, left)
 }

@@ -1,3 +1,2 @@
 -- Laws that the five records' proofs cite.
 mod Answered
-mod Ordered

@@ -3,61 +3,17 @@
 
 #![tactic(auto)]
 
-ghost use Rattle.std.specs.Prelude.{◌≡◌, [], ◌∷◌, cond, refl};
-ghost use Rattle.std.specs.Float.Ieee.{eq};
-ghost use Rattle.std.specs.Ordering.{float_partial_cmp};
+ghost use Rattle.std.specs.Prelude.{◌≡◌, [], ◌∷◌, cond};
 ghost use Rattle.algebra.specs.Flat.{record_at};
 ghost use Rattle.floats.specs.Words.{floats_of};
 ghost use Rattle.replay.specs.Same.{same_numbers};
 ghost use Rattle.replay_matrices.specs.Cases.{same_floats};
 ghost use Rattle.replay_methods.specs.Methods.{float_at, same_method};
 
-use dual::Dual;
-use dual2::Dual2;
-use dual3::Dual3;
 use floats::words;
-use hyperdual::HyperDual;
-use hyperhyperdual::HyperHyperDual;
-use records::Record;
+use records::{Compared, Record};
 use refusals::LARGEST_WIDTH;
 use replay::same::same_words;
-
-// A record whose comparisons are those of its real part.
-pub trait Compared: Record + PartialOrd {
-    ghost equal: { (x y : Self) → Self.PartialEq.eq x y ≡ eq (Self.algebra.re x) (Self.algebra.re y) };
-
-    ghost ordered: { (x y : Self) → Self.PartialOrd.partial_cmp x y ≡ float_partial_cmp (Self.algebra.re x) (Self.algebra.re y) };
-}
-
-impl Compared for Dual {
-    ghost equal = { λ x y. refl };
-
-    ghost ordered = { λ x y. refl };
-}
-
-impl Compared for Dual2 {
-    ghost equal = { λ x y. refl };
-
-    ghost ordered = { λ x y. refl };
-}
-
-impl Compared for Dual3 {
-    ghost equal = { λ x y. refl };
-
-    ghost ordered = { λ x y. refl };
-}
-
-impl Compared for HyperDual {
-    ghost equal = { λ x y. refl };
-
-    ghost ordered = { λ x y. refl };
-}
-
-impl Compared for HyperHyperDual {
-    ghost equal = { λ x y. refl };
-
-    ghost ordered = { λ x y. refl };
-}
 
 // Whether the file has 1 for what holds, 0 for what does not.
 fn same_truth(wanted: &[u64], holds: bool) -> bool

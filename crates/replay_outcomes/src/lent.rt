@@ -1,5 +1,4 @@
-// A case's lengths, cut at what the program has room for, and its numbers in the exports' types.
-ghost use Rattle.std.specs.Prelude.{◌≡◌, ◌≤◌, min};
+// What the program has room for, cut at a case's lengths, and a case's numbers in the exports' types.
 
 // The floats of a matrix of 34 by 34 records of four, and one more.
 pub const MOST_FLOATS: usize = 4625;
@@ -7,12 +6,10 @@ pub const MOST_FLOATS: usize = 4625;
 // More than the entries of an order, or the words of records, that a call takes.
 pub const FEW: usize = 64;
 
-// So many, at most as many as there is room for.
-pub fn at_most(length: u64, room: usize) -> usize
-    ensures value { result ≡ min length room }
-    ensures within { result ≤ room }
-{
-    room.min(length as usize)
+// So many of the room's first places, at most all.
+pub fn part<T>(room: &mut [T], length: u64) -> &mut [T] {
+    let end = room.len().min(length as usize);
+    &mut room[..end]
 }
 
 // A kind or a function.

@@ -5,67 +5,60 @@
 
 mod entries;
 
-use replay::tally::{Compared, Tally};
-use replay::{Place, Read, tally};
+use entries::Case;
+use replay::{Cut, Reader, tally};
 use replay_outcomes::Outcome;
+use replay_outcomes::filling::Order;
 use std::fs::File;
-use std::os::fd::AsRawFd;
 
-// The next numbers of the file, of one to sixteen digits each.
-fn read_numbers(
-    file: i32,
-    buffer: &mut [u8; replay::BUFFER],
-    place: Place,
-    numbers: &mut [u64; 16],
-) -> Read {
-    let mut here = place;
-    let mut whole = true;
-    let mut i = 0usize;
-    while i < 16 {
-        let w = replay::next_word(file, buffer, here);
-        here = w.place;
-        if w.digits == 0 || w.digits > 16 {
-            whole = false;
-        }
-        numbers[i] = w.word;
-        i += 1;
-    }
-    Read { place: here, whole }
-}
-
-// One case: a call's numbers, and what must come of it.
-fn case(file: i32, buffer: &mut [u8; replay::BUFFER], place: Place) -> Compared {
+// One case: the numbers of a call, of one to sixteen digits each, and what must come of it.
+fn case(reader: &mut Reader<File>) -> Result<bool, Cut> {
     let mut numbers = [0u64; 16];
-    let read = read_numbers(file, buffer, place, &mut numbers);
-    let place = read.place;
-    let wanted = Outcome {
-        number: numbers[13],
-        beside: numbers[14],
-        digest: numbers[15],
-    };
-    let got = entries::call(&numbers);
-    Compared {
+    reader.read_words_if(&mut numbers, |word| word.digits <= 16)?;
+    let [
+        entry,
+        size,
+        style,
+        first,
+        second,
+        rows,
+        result,
+        values,
+        one,
+        other,
         place,
-        whole: read.whole,
-        same: replay_outcomes::same(wanted, got),
-    }
-}
-
-// Every case.
-fn cases(file: i32) -> Tally {
-    let mut buffer = [0u8; replay::BUFFER];
-    let mut run = tally::begin(file, &mut buffer);
-    while run.left > 0 {
-        let place = run.place;
-        let c = case(file, &mut buffer, place);
-        run = tally::after(run, c);
-    }
-    tally::ended(file, &mut buffer, run)
+        value,
+        count,
+        number,
+        beside,
+        digest,
+    ] = numbers;
+    let order = Order {
+        one,
+        other,
+        place,
+        value,
+    };
+    let got = entries::call(&Case {
+        entry,
+        size,
+        style,
+        first,
+        second,
+        rows,
+        result,
+        values,
+        order,
+        count,
+    });
+    let wanted = Outcome {
+        number,
+        beside,
+        digest,
+    };
+    Ok(replay_outcomes::same(wanted, got))
 }
 
 fn main(rt: HostRuntime) -> std::io::Result<()> {
-    let file = File::open(&rt, "refusals.txt")?;
-    let t = cases(file.as_raw_fd());
-    tally::report(b"refusals", t);
-    Ok(())
+    tally::replay_file(&rt, "refusals.txt", "refusals", case)
 }

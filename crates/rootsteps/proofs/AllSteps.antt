@@ -1,6 +1,6 @@
 -- The steps from the leading bit to the last, by the laws of crates/real: so many bits more keep what one more keeps. Assumes nothing.
 use Prim.Native.Nat.{ℕ, zero, suc, ◌+◌, ◌-◌, ◌*◌, ◌/◌, ◌^◌, ◌≤◌, ◌<◌}
-use mathlib.Core.Path.{◌≡◌, sym, subst}
+use mathlib.Core.Path.{◌≡◌}
 use native.Mathlib.Nat.{le_trans}
 use native.Mathlib.Omega.{arith}
 use lib.Pow.{pow_mono}
@@ -33,6 +33,3 @@ kept_last n (suc digits) f k = kept_last n digits (next_of f) (again most n digi
 -- after the last: the whole root, and what its square leaves
 pub last_ended : (a bits : ℕ) → Scales bits a → let f = last_of (bits - 1) (start_of a bits) in (f.twice / 2 * (f.twice / 2) + f.rest ≡ a * top_of bits) × (f.rest ≤ 2 * (f.twice / 2)) × (f.twice / 2 < most)
 last_ended a bits s = ended most (a * top_of bits) (last_of (bits - 1) (start_of a bits)) (kept_last (a * top_of bits) (bits - 1) (start_of a bits) (kept_start a bits s))
-
-pub last_small : (a bits root : ℕ) → Scales bits a → root ≡ (last_of (bits - 1) (start_of a bits)).twice / 2 → root < 2 ^ 63
-last_small a bits root s e = subst (λ (x : ℕ). x < 2 ^ 63) (sym e) (omega (arith, (last_ended a bits s).2))

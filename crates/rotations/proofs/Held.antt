@@ -13,8 +13,8 @@ use Rattle.rotations.specs.Vector.{Vector}
 use Rattle.matrices.proofs.Places.{inside}
 
 -- the place of a row, and of a record in it, is no large number
-pub square_row : (n r c : ℕ) (l : List Float) → Square 2 n l → r < n → c < n → r * n ≤ largest.n * largest.n
-square_row n r c l s hr hc = (inside 2 n r c l s hr hc).row
+pub row_few : (n r c : ℕ) (l : List Float) → Square 2 n l → r < n → c < n → r * n ≤ largest.n * largest.n
+row_few n r c l s hr hc = (inside 2 n r c l s hr hc).row
 
 -- the record at row r, column c
 pub cell_held : (n r c : ℕ) (l : List Float) → Square 2 n l → r < n → c < n → r * n + c < length (dual_records l)

@@ -7,7 +7,7 @@ use Rattle.algebra.specs.Algebra.{Algebra, zero_of}
 use Rattle.matrices.specs.Matrix.{cell, store}
 use Rattle.rotations.specs.declared.Choice.{Choice}
 use Rattle.rotations.specs.declared.Choice.TheVariants.{Keep, Clear, Rotate}
-use Rattle.rotations.specs.Rotation.{Angle, angle, Work, work, choice_of, angle_of, item, shift, turn_columns, turn_between, turn_rows, turn_above, rotate, act, pair}
+use Rattle.rotations.specs.Rotation.{Angle, angle, Work, work, choice_of, angle_of, item, shift, turn_columns, turn_above, rotate, act, pair}
 
 -- the entry (p, q) and the two diagonal entries beside it, as they were read
 pub record Entries {R : Type 0} (A : Algebra R) (n p q : ℕ) (a d : List R) (x dp dq : R) : Type 0 where
@@ -16,11 +16,6 @@ pub record Entries {R : Type 0} (A : Algebra R) (n p q : ℕ) (a d : List R) (x 
   pub second : dq ≡ item A d q
 
 module _ {R : Type 0} (A : Algebra R) (n p q : ℕ) where
-  pub above_by : (s tau : R) (a a1 a2 a3 a4 : List R) → a1 ≡ store A n a p q (zero_of A) → a2 ≡ turn_columns A n s tau p q p a1
-      → a3 ≡ turn_between A n s tau p q a2 → a4 ≡ turn_rows A n s tau p q a3 → a4 ≡ turn_above A n s tau p q a
-  unfolding turn_above
-  above_by s tau a a1 a2 a3 a4 e1 e2 e3 e4 = e4 ∙ ap (turn_rows A n s tau p q) (e3 ∙ ap (turn_between A n s tau p q) (e2 ∙ ap (turn_columns A n s tau p q p) e1))
-
   -- what is worked on before: the matrix, the vectors, the diagonal, its gains and the rotations
   module _ (a v d zw : List R) (rotations : ℕ) where
     pub rotate_by : (s tau h : R) (a' v' d' zw' : List R) → a' ≡ turn_above A n s tau p q a → v' ≡ turn_columns A n s tau p q n v

@@ -4,7 +4,7 @@ ghost use Rattle.dual.specs.Rules.{dual_algebra};
 ghost use Rattle.rotations.specs.Rotation.{gap_of, absorbed, choice_of, hypotenuse_of, tangent_of, rotation_tangent, angle_by, angle_of};
 ghost use Rattle.rotations.specs.Buffers.{angle_parts};
 
-use super::{Angle, Choice};
+use super::{Angle, Block, Choice};
 use dual::Dual;
 use records::Record;
 
@@ -22,29 +22,6 @@ fn is_absorbed(gapq: Dual, d: Dual) -> bool
 {
     let size = d.abs();
     gapq.add(size) == size
-}
-
-// The entry x is small beside dp and dq, and the sweep is late enough to clear it.
-#[tactic(auto, using(crate::proofs::Chosen::cleared_both, crate::proofs::Chosen::cleared_first, crate::proofs::Chosen::cleared_early))]
-fn is_cleared(it_num: usize, x: Dual, dp: Dual, dq: Dual) -> bool
-    ensures { result ≡ (ltb 4 it_num && (absorbed dual_algebra (gap_of dual_algebra x) dp && absorbed dual_algebra (gap_of dual_algebra x) dq)) }
-{
-    let gapq = gap(x);
-    4 < it_num && is_absorbed(gapq, dp) && is_absorbed(gapq, dq)
-}
-
-// What is done with the entry x between dp and dq.
-#[tactic(auto, using(crate::proofs::Chosen::choose_clear, crate::proofs::Chosen::choose_rotate, crate::proofs::Chosen::choose_keep))]
-pub(crate) fn choose(thresh: f64, it_num: usize, x: Dual, dp: Dual, dq: Dual) -> Choice
-    ensures { result ≡ choice_of dual_algebra thresh it_num x dp dq }
-{
-    if is_cleared(it_num, x, dp, dq) {
-        return Choice::Clear;
-    }
-    if thresh <= real::abs(x.re) {
-        return Choice::Rotate;
-    }
-    Choice::Keep
 }
 
 // sqrt(x * x + 1)
@@ -90,9 +67,34 @@ fn angle_by(x: Dual, t: Dual) -> Angle
     }
 }
 
-// The angle that rotates away the entry x between dp and dq.
-pub(crate) fn angle(x: Dual, dp: Dual, dq: Dual) -> Angle
-    ensures { angle_parts result ≡ angle_of dual_algebra x dp dq }
-{
-    angle_by(x, rotation_tangent(x, dq.sub(dp)))
+impl Block {
+    // The entry is small beside both diagonal entries, and the sweep is late enough to clear it.
+    #[tactic(auto, using(crate::proofs::Chosen::cleared_both, crate::proofs::Chosen::cleared_first, crate::proofs::Chosen::cleared_early))]
+    fn is_cleared(self, it_num: usize) -> bool
+        ensures { result ≡ (ltb 4 it_num && (absorbed dual_algebra (gap_of dual_algebra self.x) self.dp && absorbed dual_algebra (gap_of dual_algebra self.x) self.dq)) }
+    {
+        let gapq = gap(self.x);
+        4 < it_num && is_absorbed(gapq, self.dp) && is_absorbed(gapq, self.dq)
+    }
+
+    // What is done with the entry in sweep it_num.
+    #[tactic(auto, using(crate::proofs::Chosen::choose_clear, crate::proofs::Chosen::choose_rotate, crate::proofs::Chosen::choose_keep))]
+    pub(crate) fn choice(self, thresh: f64, it_num: usize) -> Choice
+        ensures { result ≡ choice_of dual_algebra thresh it_num self.x self.dp self.dq }
+    {
+        if self.is_cleared(it_num) {
+            return Choice::Clear;
+        }
+        if thresh <= real::abs(self.x.re) {
+            return Choice::Rotate;
+        }
+        Choice::Keep
+    }
+
+    // The angle that rotates the entry away.
+    pub(crate) fn angle(self) -> Angle
+        ensures { angle_parts result ≡ angle_of dual_algebra self.x self.dp self.dq }
+    {
+        angle_by(self.x, rotation_tangent(self.x, self.dq.sub(self.dp)))
+    }
 }

@@ -3,8 +3,8 @@
 
 #![tactic(auto)]
 
+pub mod cells;
 mod choose;
-pub mod matrix;
 mod pair;
 mod turn;
 pub mod work;
@@ -25,4 +25,12 @@ pub struct Angle {
     pub s: Dual,
     pub tau: Dual,
     pub h: Dual,
+}
+
+// An entry x above the diagonal, between the diagonal entries dp of its row and dq of its column.
+#[derive(Clone, Copy, Debug)]
+pub(crate) struct Block {
+    pub x: Dual,
+    pub dp: Dual,
+    pub dq: Dual,
 }

@@ -1,17 +1,18 @@
 // What a sweep works on.
-ghost use Rattle.std.specs.Prelude.{◌≡◌};
+ghost use Rattle.matrices.specs.Matrix.{Square};
 ghost use Rattle.rotations.specs.Vector.{Vector};
 
-use super::matrix::Matrix;
-
-// The matrix a, the vectors v, the diagonal d, what the diagonal gained zw, and the rotations so far.
+// The matrix a, the vectors v, the diagonal d and what the diagonal gained zw, each of n by n or n records in lent floats; and the rotations so far.
+#[derive(Drop)]
 pub struct Work<'a> {
-    pub a: Matrix<'a>,
-    pub v: Matrix<'a>,
+    pub n: usize,
+    pub a: &'a mut [f64],
+    pub v: &'a mut [f64],
     pub d: &'a mut [f64],
     pub zw: &'a mut [f64],
     pub rotations: usize,
-    ghost vectors: { v.n ≡ a.n },
-    ghost values: { Vector a.n d.now },
-    ghost gains: { Vector a.n zw.now },
+    ghost matrix: { Square 2 n a.now },
+    ghost vectors: { Square 2 n v.now },
+    ghost values: { Vector n d.now },
+    ghost gains: { Vector n zw.now },
 }

@@ -1,10 +1,9 @@
 // Solve, and inverse column by column, over any record. The starts of a vector are written first; then each element is made from what stands in its place.
-// The vector's element i is record i * stride + base of x: all of x (1, 0), or a column of a matrix (n, j).
 // Inner: for `lu`, which has the entries. Its functions have a `requires`, which that crate shows.
 
 #![tactic(auto)]
 
-ghost use Rattle.std.specs.Prelude.{◌≡◌, ◌+◌, ◌*◌, ◌<◌, ◌≤◌, length};
+ghost use Rattle.std.specs.Prelude.{◌≡◌, ◌+◌, ◌*◌, ◌^◌, ◌<◌, ◌≤◌, length};
 ghost use Rattle.algebra.specs.Flat.{decode};
 ghost use Rattle.matrices.specs.Matrix.{Square, RowPlace};
 ghost use Rattle.matrices.specs.Solve.{Strided, less_product, less_row, forward_row_from, forward_from, back_row, back, substitute_from, solve_starts, solve_of};
@@ -12,8 +11,37 @@ ghost use Rattle.matrices.specs.Inverse.{units, inverse_of};
 ghost use Rattle.orders.specs.Order.{Order};
 
 use records::Record;
+use std::marker::PhantomData;
+
+// The factors of LU: n by n records in lent floats, row by row.
+#[derive(Drop)]
+struct Factors<'a, R: Record> {
+    n: usize,
+    floats: &'a [f64],
+    of: PhantomData<R>,
+    ghost square: { Square R.layout.width n floats.now },
+}
+
+// Where a vector lies among the records of x: its element i is record i * stride + base. That is all of x (1, 0), or column j of a matrix (n, j).
+#[derive(Clone, Copy, Debug)]
+struct Vector {
+    stride: usize,
+    base: usize,
+}
+
+impl Vector {
+    // The record of element i.
+    #[inline]
+    fn at(self, i: usize) -> usize
+        requires { i * self.stride + self.base < 2 ^ 64 }
+        ensures { result ≡ i * self.stride + self.base }
+    {
+        i * self.stride + self.base
+    }
+}
 
 // v less record p of a times record q of x.
+#[inline]
 fn less_product<R: Record>(v: R, a: &[f64], p: usize, x: &[f64], q: usize) -> R
     requires p_held { p < length (decode R.layout a.now) }
     requires q_held { q < length (decode R.layout x.now) }
@@ -24,81 +52,78 @@ fn less_product<R: Record>(v: R, a: &[f64], p: usize, x: &[f64], q: usize) -> R
 
 // v less the products of row i with x, columns lo..hi.
 fn less_row<R: Record>(
-    n: usize,
-    a: &[f64],
+    a: &Factors<R>,
     x: &[f64],
-    stride: usize,
-    base: usize,
+    place: Vector,
     i: usize,
     lo: usize,
     hi: usize,
     v: R,
 ) -> R
-    requires row_place { RowPlace R.layout.width n i a.now }
-    requires strided { Strided R.layout.width n stride base x.now }
-    requires hi_le_n { hi ≤ n }
-    ensures { result ≡ less_row R.algebra n (decode R.layout a.now) stride base i (decode R.layout x.now) lo hi v }
+    requires i_lt_n { i < a.now.n }
+    requires strided { Strided R.layout.width a.now.n place.stride place.base x.now }
+    requires hi_le_n { hi ≤ a.now.n }
+    ensures { result ≡ less_row R.algebra a.now.n (decode R.layout a.now.floats.now) place.stride place.base i (decode R.layout x.now) lo hi v }
 {
-    let row = i * n;
+    let row = i * a.n;
     let mut r = v;
+    // Kept, here and in the loops below over rows: records stand in flat floats by their places, a row's and a vector's at other distances, and x is written while it is
+    // read, so that no iterator over items is plainer than the range.
     for k in lo..hi {
-        r = less_product(r, a, row + k, x, k * stride + base);
+        r = less_product(r, a.floats, row + k, x, place.at(k));
     }
     r
 }
 
 // x[i], less the products with the elements before it.
-fn forward_row<R: Record>(n: usize, a: &[f64], x: &mut [f64], stride: usize, base: usize, i: usize)
-    requires row_place { RowPlace R.layout.width n i a.now }
-    requires strided { Strided R.layout.width n stride base x.old }
-    ensures { decode R.layout x.new ≡ forward_row_from R.algebra n (decode R.layout a.now) stride base i (decode R.layout x.old) }
+fn forward_row<R: Record>(a: &Factors<R>, x: &mut [f64], place: Vector, i: usize)
+    requires i_lt_n { i < a.now.n }
+    requires strided { Strided R.layout.width a.now.n place.stride place.base x.old }
+    ensures { decode R.layout x.new ≡ forward_row_from R.algebra a.now.n (decode R.layout a.now.floats.now) place.stride place.base i (decode R.layout x.old) }
 {
-    let at = i * stride + base;
-    let r = less_row(n, a, x, stride, base, i, 0, i, R::read(x, at));
+    let at = place.at(i);
+    let r = less_row(a, x, place, i, 0, i, R::read(x, at));
     R::write(x, at, r);
 }
 
 // From the first element down.
-fn run_forward<R: Record>(n: usize, a: &[f64], x: &mut [f64], stride: usize, base: usize)
-    requires square { Square R.layout.width n a.now }
-    requires strided { Strided R.layout.width n stride base x.old }
-    ensures { decode R.layout x.new ≡ forward_from R.algebra n (decode R.layout a.now) stride base (decode R.layout x.old) }
+fn run_forward<R: Record>(a: &Factors<R>, x: &mut [f64], place: Vector)
+    requires strided { Strided R.layout.width a.now.n place.stride place.base x.old }
+    ensures { decode R.layout x.new ≡ forward_from R.algebra a.now.n (decode R.layout a.now.floats.now) place.stride place.base (decode R.layout x.old) }
 {
-    for i in 0..n {
-        forward_row::<R>(n, a, x, stride, base, i);
+    for i in 0..a.n {
+        forward_row(a, x, place, i);
     }
 }
 
 // x[i], less the products with the elements after it, over a[(i, i)].
-fn back_row<R: Record>(n: usize, a: &[f64], x: &mut [f64], stride: usize, base: usize, i: usize)
-    requires row_place { RowPlace R.layout.width n i a.now }
-    requires strided { Strided R.layout.width n stride base x.old }
-    ensures { decode R.layout x.new ≡ back_row R.algebra n (decode R.layout a.now) stride base i (decode R.layout x.old) }
+fn back_row<R: Record>(a: &Factors<R>, x: &mut [f64], place: Vector, i: usize)
+    requires i_lt_n { i < a.now.n }
+    requires strided { Strided R.layout.width a.now.n place.stride place.base x.old }
+    ensures { decode R.layout x.new ≡ back_row R.algebra a.now.n (decode R.layout a.now.floats.now) place.stride place.base i (decode R.layout x.old) }
 {
-    let at = i * stride + base;
-    let r = less_row(n, a, x, stride, base, i, i + 1, n, R::read(x, at));
-    R::write(x, at, r.div(R::read(a, i * n + i)));
+    let at = place.at(i);
+    let r = less_row(a, x, place, i, i + 1, a.n, R::read(x, at));
+    R::write(x, at, r.div(R::read(a.floats, i * a.n + i)));
 }
 
 // From the last element up.
-fn run_back<R: Record>(n: usize, a: &[f64], x: &mut [f64], stride: usize, base: usize)
-    requires square { Square R.layout.width n a.now }
-    requires strided { Strided R.layout.width n stride base x.old }
-    ensures { decode R.layout x.new ≡ back R.algebra n (decode R.layout a.now) stride base (decode R.layout x.old) }
+fn run_back<R: Record>(a: &Factors<R>, x: &mut [f64], place: Vector)
+    requires strided { Strided R.layout.width a.now.n place.stride place.base x.old }
+    ensures { decode R.layout x.new ≡ back R.algebra a.now.n (decode R.layout a.now.floats.now) place.stride place.base (decode R.layout x.old) }
 {
-    for i in (0..n).rev() {
-        back_row::<R>(n, a, x, stride, base, i);
+    for i in (0..a.n).rev() {
+        back_row(a, x, place, i);
     }
 }
 
 // Forward, then back, from the starts that stand in x.
-fn substitute<R: Record>(n: usize, a: &[f64], x: &mut [f64], stride: usize, base: usize)
-    requires square { Square R.layout.width n a.now }
-    requires strided { Strided R.layout.width n stride base x.old }
-    ensures { decode R.layout x.new ≡ substitute_from R.algebra n (decode R.layout a.now) stride base (decode R.layout x.old) }
+fn substitute<R: Record>(a: &Factors<R>, x: &mut [f64], place: Vector)
+    requires strided { Strided R.layout.width a.now.n place.stride place.base x.old }
+    ensures { decode R.layout x.new ≡ substitute_from R.algebra a.now.n (decode R.layout a.now.floats.now) place.stride place.base (decode R.layout x.old) }
 {
-    run_forward::<R>(n, a, x, stride, base);
-    run_back::<R>(n, a, x, stride, base);
+    run_forward(a, x, place);
+    run_back(a, x, place);
 }
 
 // x[k] starts as b[order[k]].
@@ -122,7 +147,13 @@ pub fn solve_run<R: Record>(n: usize, a: &[f64], order: &[usize], b: &[f64], x: 
     ensures { decode R.layout x.new ≡ solve_of R.algebra n (decode R.layout a.now) order.now (decode R.layout b.now) }
 {
     solve_starts::<R>(n, order, b, x);
-    substitute::<R>(n, a, x, 1, 0);
+    let whole = Vector { stride: 1, base: 0 };
+    let factors: Factors<R> = Factors {
+        n,
+        floats: a,
+        of: PhantomData,
+    };
+    substitute(&factors, x, whole);
 }
 
 // Row i of the starts of inverse is one at column order[i], else zero.
@@ -144,8 +175,14 @@ pub fn inverse_run<R: Record>(n: usize, a: &[f64], order: &[usize], x: &mut [f64
     requires square_2 { Square R.layout.width n x.old }
     ensures { decode R.layout x.new ≡ inverse_of R.algebra n (decode R.layout a.now) order.now }
 {
+    let factors: Factors<R> = Factors {
+        n,
+        floats: a,
+        of: PhantomData,
+    };
     inverse_starts::<R>(n, order, x);
     for j in 0..n {
-        substitute::<R>(n, a, x, n, j);
+        let column = Vector { stride: n, base: j };
+        substitute(&factors, x, column);
     }
 }

@@ -24,14 +24,6 @@ module _ (p : Page) where
   pub then : {q r : Page} (a b : List ℕ) → q ≡ written p a → r ≡ written q b → r ≡ written p (a ++ b)
   then a b g h = h ∙ ap (λ (s : Page). written s b) g ∙ written_append p a b
 
-  -- three parts
-  pub three_parts : {q r s : Page} (a b d : List ℕ) → q ≡ written p a → r ≡ written q b → s ≡ written r d → s ≡ written p (a ++ b ++ d)
-  three_parts a b d g h i = then (a ++ b) d (then a b g h) i
-
-  -- a line of four parts
-  pub four_parts : {q r s t : Page} (a b d e : List ℕ) → q ≡ written p a → r ≡ written q b → s ≡ written r d → t ≡ written s e → t ≡ written p (a ++ b ++ d ++ e)
-  four_parts a b d e g h i j = then (a ++ b ++ d) e (three_parts a b d g h i) j
-
 pub written_length : (p : Page) (a : List ℕ) → length (written p a).bytes ≡ length p.bytes
 unfolding written
 written_length p [] = refl
@@ -70,27 +62,6 @@ counts l n h = (h, sym (length-take-le n l h))
 pub counted : (l m : List ℕ) (r : ℕ) (a : List ℕ) → page m r ≡ written (page l 0) a → (r ≤ length m) × (r ≡ length (take r m))
 counted l m r a e =
     counts m r (subst (λ (p : Page). p.used ≤ length p.bytes) (sym e) (written_within (page l 0) a (omega arith)))
-
--- ---- a loop that writes one piece after the other
--- what it keeps: i of n pieces are written, `upto i` so far
-pub record Pieces (upto : ℕ → List ℕ) (n : ℕ) (p : Page) (out : List ℕ) (end i : ℕ) : Type 0 where
-  pub within : i ≤ n
-  pub put : page out end ≡ written p (upto i)
-
-module _ (upto : ℕ → List ℕ) (n : ℕ) where
-  pub pieces_none : (out : List ℕ) (at : ℕ) → upto 0 ≡ [] → Pieces upto n (page out at) out at 0
-  unfolding written
-  pieces_none out at e = record { within = omega arith; put = ap (written (page out at)) (sym e) }
-
-  module _ (p : Page) (out : List ℕ) (end i : ℕ) (so_far : Pieces upto n p out end i) where
-    pub pieces_more : (after : List ℕ) (r : ℕ) (piece : List ℕ) → page after r ≡ written (page out end) piece → i < n → upto i ++ piece ≡ upto (i + 1) → Pieces upto n p after r (i + 1)
-    pieces_more after r piece e lt g = record { within = omega arith; put = then p (upto i) piece so_far.put e ∙ ap (written p) g }
-
-    pub pieces_length : length out ≡ length p.bytes
-    pieces_length = ap (λ (q : Page). length q.bytes) so_far.put ∙ written_length p (upto i)
-
-    pub pieces_all : (text : List ℕ) → n ≤ i → upto n ≡ text → page out end ≡ written p text
-    pieces_all text h g = so_far.put ∙ ap (λ (k : ℕ). written p (upto k)) (let w = so_far.within in let e : i ≡ n = omega arith in e) ∙ ap (written p) g
 
 -- ---- a text as far as it fits: one test for all of it
 -- a page that is full takes no more

@@ -112,16 +112,6 @@ pub record Scanning (most : ℕ) (text : List ℕ) (v k : ℕ) : Type 0 where
   pub rest : past text ≡ past (drop k text)
 
 module _ (most : ℕ) (text : List ℕ) where
-  pub scanning_none : Scanning most text 0 0
-  scanning_none = record {
-    small = omega arith;
-    spelled = 0;
-    value = record { same = λ l. refl; above = λ l. absurd (omega arith) };
-    worths = refl;
-    front_so_far = refl;
-    rest = refl;
-  }
-
   module _ (v k : ℕ) (s : Scanning most text v k) where
     -- a digit d more
     pub scanning_more : (d r : ℕ) → k < length text → Some d ≡ digit_of 10 (byte_at text k) → Grown most v d r → Scanning most text r (k + 1)

@@ -1,30 +1,40 @@
 -- The entry refuses by the definition's number; where that is 0, the lengths are as a run asks, and the run is the definition's.
-use borrow.Author.Rules.{rules}
-use Rattle.dual.specs.Rules.{dual_algebra, dual_layout}
+use mathlib.Core.Path.{ap, ◌∙◌}
+use Prim.Native.Nat.{◌≤◌}
+use native.Mathlib.Omega.{arith}
+use Rattle.std.specs.Prelude.{Err}
+use Rattle.std.proofs.lemmas.Result.{err_from_is_err_and}
 use Rattle.refusals.specs.Largest as largest
 use Rattle.jacobi.specs.Scratch.{small_n}
-use Rattle.jacobi.proofs.Answered.{jacobi_allowed, jacobi_small, jacobi_answers}
-use Rattle.jacobi.proofs.Slopes.{jacobi_refused}
+use Rattle.jacobi.proofs.Answered.{jacobi_unfit, jacobi_allowed, jacobi_small, jacobi_answers}
 use Rattle.jacobi.proofs.jacobi_eigenvalue.Goals as goal
 
-pub returns-then-number-ne0 : goal.returns-then-number-ne0
-returns-then-number-ne0 c = search (rules, jacobi_refused dual_algebra dual_layout)
+pub returns-in_err-refuse : goal.returns-in_err-refuse
+returns-in_err-refuse c =
+    let p = err_from_is_err_and c.from_residual.result c.from_residual.ensures.1 in
+    jacobi_unfit _ _ _ _ _ _ c.refuse.ensures _ _ c.in_err-refuse.was (p.1 ∙ ap Err p.2)
 
 -- a call that is not refused may run: n was found to be small
-pub run_small-e-requires : goal.run_small-e-requires
-run_small-e-requires c =
-    let p = jacobi_allowed _ _ _ c.args.values.now _ _ c.refusal-number.ensures c.if-number-ne0.false small_n c.if-n-le-SMALL_N.true in
-    record { square = p.0; vectors_square = p.1.0; values_len = p.1.1.0; size = p.1.1.1.0; limit_allowed = p.1.1.1.1 }
+pub run_within-sweeps-requires : goal.run_within-sweeps-requires
+run_within-sweeps-requires c =
+    let s = c.args in
+    let p = jacobi_allowed _ _ _ s.values.now s.vectors.now _ c.refuse.ensures _ c.in_ok-refuse.was small_n c.if-n-le-SMALL_N.true (omega arith) in
+    record { square = p.square; vectors_square = p.vectors_square; values_len = p.values_len; matrix_fits = p.matrix_fits; row_fits = p.row_fits; within = p.within }
 
 -- and else is at most the largest
-pub run_large-e-requires : goal.run_large-e-requires
-run_large-e-requires c =
+pub run_within-sweeps-requires-else-n-le-SMALL_N : goal.run_within-sweeps-requires-else-n-le-SMALL_N
+run_within-sweeps-requires-else-n-le-SMALL_N c =
     let s = c.args in
-    let p = jacobi_allowed _ _ _ s.values.now _ _ c.refusal-number.ensures c.if-number-ne0.false largest.n (jacobi_small s.n s.a.now s.limit s.values.now s.vectors.now _ c.refusal-number.ensures c.if-number-ne0.false) in
-    record { square = p.0; vectors_square = p.1.0; values_len = p.1.1.0; size = p.1.1.1.0; limit_allowed = p.1.1.1.1 }
+    let n : s.n ≤ largest.n = jacobi_small _ _ _ s.values.now s.vectors.now _ c.refuse.ensures _ c.in_ok-refuse.was in
+    let p = jacobi_allowed _ _ _ s.values.now s.vectors.now _ c.refuse.ensures _ c.in_ok-refuse.was largest.n n (omega arith) in
+    record { square = p.square; vectors_square = p.vectors_square; values_len = p.values_len; matrix_fits = p.matrix_fits; row_fits = p.row_fits; within = p.within }
 
 pub returns-then-n-le-SMALL_N : goal.returns-then-n-le-SMALL_N
-returns-then-n-le-SMALL_N c = search (rules, jacobi_answers)
+returns-then-n-le-SMALL_N c =
+    let r = c.run_within-sweeps in
+    jacobi_answers _ _ _ _ _ _ c.refuse.ensures _ c.in_ok-refuse.was _ _ _ r.auto.values r.auto.vectors r.ensures.values_after r.ensures.vectors_after r.ensures.sweeps
 
 pub returns-else-n-le-SMALL_N : goal.returns-else-n-le-SMALL_N
-returns-else-n-le-SMALL_N c = search (rules, jacobi_answers)
+returns-else-n-le-SMALL_N c =
+    let r = c.run_within-sweeps-else-n-le-SMALL_N in
+    jacobi_answers _ _ _ _ _ _ c.refuse.ensures _ c.in_ok-refuse.was _ _ _ r.auto.values r.auto.vectors r.ensures.values_after r.ensures.vectors_after r.ensures.sweeps

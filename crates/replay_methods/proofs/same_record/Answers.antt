@@ -2,7 +2,7 @@
 use Rattle.std.proofs.Common.{rules, arith, Float}
 use Rattle.std.proofs.lemmas.List.{length-take-le}
 use Rattle.algebra.proofs.Cells.{held}
-use Rattle.calls.proofs.Lent.{one_written}
+use Rattle.algebra.proofs.Cells.{one_written}
 use Rattle.replay_methods.proofs.same_record.Goals as goal
 
 pub write-requires : goal.write-requires

@@ -4,4 +4,4 @@ use Rattle.matrices.proofs.Substitution.{Backing}
 use Rattle.substitution.proofs.run_back.Given as goal
 
 abbrev pub invariant-loop-i : goal.invariant-loop-i
-invariant-loop-i g l = Backing g.met.R.Record.laws l.n l.a l.initial.x l.stride l.base l.x (l.n - l.i)
+invariant-loop-i g l = Backing g.met.R.Record.laws l.a.n l.a.floats.now l.initial.x l.place.stride l.place.base l.x (l.a.n - l.i)

@@ -1,10 +1,10 @@
 -- The loop keeps: the words below i are good, and their floats stand in the matrix (Reading).
-use Rattle.std.proofs.Common.{refl, sym, rules}
+use Rattle.std.proofs.Common.{refl, sym, arith, rules}
 use Rattle.dualrun_text.proofs.Words.{body_other_length, body_other_word, body_good, body_floats}
 use Rattle.dualrun_text.proofs.read.body.Goals as goal
 
-pub returns-then-text-start : goal.returns-then-text-start
-returns-then-text-start c = (sym (body_other_length _ _ _ c.if-text-start.true), refl)
+pub returns-then-rest-matrix : goal.returns-then-rest-matrix
+returns-then-rest-matrix c = (sym (body_other_length _ _ _ (λ e. c.if-rest-matrix.true (omega arith))), refl)
 
 pub returns-in_default : goal.returns-in_default
 returns-in_default c = (sym (body_other_word _ _ _ _ _ c.loop-i.invariant c.word.result (search rules) c.word.ensures c.in_default.is), refl)
@@ -12,4 +12,4 @@ returns-in_default c = (sym (body_other_word _ _ _ _ _ c.loop-i.invariant c.word
 pub returns : goal.returns
 returns c =
     let reading = c.loop-i.invariant in
-    (sym (body_good _ _ _ _ _ reading (search rules) (search rules)), body_floats _ _ _ _ _ reading (search rules))
+    (sym (body_good _ _ _ _ _ reading (omega arith) (search rules)), body_floats _ _ _ _ _ reading (search rules))

@@ -1,14 +1,20 @@
--- The loop keeps: what is left to put gives the whole diagonal.
-use Prim.Native.Nat.{◌-◌}
+-- The loop keeps: what is left to put gives the whole diagonal, in both vectors.
+use mathlib.Core.Path.{◌≡◌}
 use Rattle.algebra.specs.Loop.{upto}
 use Rattle.dual.specs.Rules.{dual_algebra, dual_records}
-use Rattle.dual.proofs.Flat.{dual_laws}
-use Rattle.matrices.proofs.Turns.{Running}
+use Rattle.rotations.specs.Buffers.{SameWork}
+use Rattle.rotations.specs.Vector.{Vector}
+use Rattle.jacobi.specs.Answer.{OthersKept}
 use Rattle.jacobi.specs.Sweeps.{put_diagonal}
 use Rattle.jacobi.proofs.prepare.put_diagonal.Given as goal
 
 abbrev pub invariant-loop-i : goal.invariant-loop-i
-invariant-loop-i l = Running dual_laws (put_diagonal dual_algebra l.n (dual_records l.a)) l.n l.initial.d l.d l.i (upto 0 l.n (put_diagonal dual_algebra l.n (dual_records l.a)) (dual_records l.initial.d))
-
-abbrev pub decreases-loop-i : goal.decreases-loop-i
-decreases-loop-i l = l.n - l.i
+invariant-loop-i l =
+    let first = l.initial.work in
+    let put = put_diagonal dual_algebra first.n (dual_records first.a.now) in record {
+      same : SameWork first l.work;
+      others : OthersKept first l.work;
+      sums : Vector first.n l.bw;
+      d : upto l.i first.n put (dual_records l.work.d.now) ≡ upto 0 first.n put (dual_records first.d.now);
+      bw : upto l.i first.n put (dual_records l.bw) ≡ upto 0 first.n put (dual_records l.initial.bw);
+    }

@@ -1,7 +1,8 @@
 -- The loop keeps: what is left to exchange gives the columns exchanged whole.
 use borrow.Author.Rules.{rules}
-use Rattle.dual.proofs.Flat.{dual_laws}
-use Rattle.matrices.proofs.Places.{Inside, inside, square_kept}
+use Rattle.dual.specs.Laws.{dual_laws}
+use Rattle.matrices.proofs.Places.{square_kept}
+use Rattle.rotations.proofs.Held.{cell_held}
 use Rattle.matrices.proofs.Turns.{run_turn, run_end}
 use Rattle.jacobi.specs.Sort.{exchange_in_row, exchange_columns}
 use Rattle.jacobi.proofs.sort.exchange_columns.Goals as goal
@@ -11,30 +12,9 @@ pub loop-l-init : goal.loop-l-init
 unfolding exchange_columns
 loop-l-init c = search rules
 
-pub overflow_mul-l : goal.overflow_mul-l
-overflow_mul-l c =
-    let places : let s = c.args in let at = c.loop-l in Inside 2 s.n at.l s.m at.v × Inside 2 s.n at.l s.k at.v = search (rules, inside, square_kept) in
-    let p = places in search rules
-
-pub overflow_add-l : goal.overflow_add-l
-overflow_add-l c =
-    let places : let s = c.args in let at = c.loop-l in Inside 2 s.n at.l s.m at.v × Inside 2 s.n at.l s.k at.v = search (rules, inside, square_kept) in
-    let p = places in search rules
-
-pub overflow_mul-l-in-loop-l : goal.overflow_mul-l-in-loop-l
-overflow_mul-l-in-loop-l c =
-    let places : let s = c.args in let at = c.loop-l in Inside 2 s.n at.l s.m at.v × Inside 2 s.n at.l s.k at.v = search (rules, inside, square_kept) in
-    let p = places in search rules
-
-pub overflow_add-l-in-loop-l : goal.overflow_add-l-in-loop-l
-overflow_add-l-in-loop-l c =
-    let places : let s = c.args in let at = c.loop-l in Inside 2 s.n at.l s.m at.v × Inside 2 s.n at.l s.k at.v = search (rules, inside, square_kept) in
-    let p = places in search rules
-
+-- both places are in row l
 pub exchange-requires : goal.exchange-requires
-exchange-requires c =
-    let places : let s = c.args in let at = c.loop-l in Inside 2 s.n at.l s.m at.v × Inside 2 s.n at.l s.k at.v = search (rules, inside, square_kept) in
-    let p = places in search rules
+exchange-requires c = let s = square_kept _ _ _ _ c.requires.square c.loop-l.invariant.size in record { p_held = cell_held _ _ _ _ s c.loop-l-test.true c.requires.columns_in_matrix.0; q_held = cell_held _ _ _ _ s c.loop-l-test.true c.requires.columns_in_matrix.1 }
 
 -- a turn exchanges within its row
 pub loop-l-preserved : goal.loop-l-preserved

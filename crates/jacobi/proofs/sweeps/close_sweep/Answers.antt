@@ -1,6 +1,6 @@
 -- The sums are added, copied, and what was added is cleared.
 use borrow.Author.Rules.{rules}
-use Rattle.dual.proofs.Flat.{dual_laws}
+use Rattle.dual.specs.Laws.{dual_laws}
 use Rattle.jacobi.proofs.Scratch.{blank, copied}
 use Rattle.jacobi.proofs.sweeps.close_sweep.Goals as goal
 

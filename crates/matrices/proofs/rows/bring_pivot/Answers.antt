@@ -1,7 +1,6 @@
 -- Each way out is one of the definition's three, with the pivot that was found (PivotBrought).
 use borrow.Author.Rules.{rules}
-use native.Mathlib.Omega.{arith}
-use Rattle.matrices.proofs.Places.{few, row_inside}
+use Rattle.matrices.proofs.Places.{row_inside}
 use Rattle.matrices.proofs.PivotBrought.{pivot_entry, pivot_inside, brought_none, brought_stays, brought_moves}
 use Rattle.matrices.proofs.rows.bring_pivot.Goals as goal
 
@@ -10,10 +9,6 @@ returns-then-pivot c = search (rules, brought_none)
 
 pub returns-then-pivot-i : goal.returns-then-pivot-i
 returns-then-pivot-i c = search (rules, brought_stays)
-
--- a row has at most 256 floats
-pub overflow_mul-n : goal.overflow_mul-n
-overflow_mul-n c = omega (arith, few _ _ c.requires.square.small c.requires.square.narrow)
 
 pub exchange_rows-requires : goal.exchange_rows-requires
 exchange_rows-requires c = search (rules, row_inside, pivot_inside)

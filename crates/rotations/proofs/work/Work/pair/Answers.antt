@@ -6,12 +6,12 @@ use Rattle.rotations.proofs.work.Work.pair.Goals as goal
 
 -- kept: all is as it was
 pub returns-in-Keep-clause-work_after : goal.returns-in-Keep-clause-work_after
-returns-in-Keep-clause-work_after c = pair_keep dual_algebra _ _ _ _ _ _ _ _ _ _ _ _ _ _ (record { entry = search rules; first = search rules; second = search rules }) c.choose.ensures c.in-Keep.is
+returns-in-Keep-clause-work_after c = pair_keep dual_algebra _ _ _ _ _ _ _ _ _ _ _ _ _ _ (record { entry = search rules; first = search rules; second = search rules }) c.choice.ensures c.in-Keep.is
 
 -- cleared: the entry alone is zero
 pub returns-in-Clear-clause-work_after : goal.returns-in-Clear-clause-work_after
-returns-in-Clear-clause-work_after c = pair_clear dual_algebra _ _ _ _ _ _ _ _ _ _ _ _ _ _ (record { entry = search rules; first = search rules; second = search rules }) c.choose.ensures _ c.in-Clear.is (rw c.zero.ensures at c.put.ensures.entries_after)
+returns-in-Clear-clause-work_after c = pair_clear dual_algebra _ _ _ _ _ _ _ _ _ _ _ _ _ _ (record { entry = search rules; first = search rules; second = search rules }) c.choice.ensures _ c.in-Clear.is (rw c.zero.ensures at c.put.ensures.a_after)
 
 -- rotated: by the angle of the three entries
 pub returns-in-Rotate-clause-work_after : goal.returns-in-Rotate-clause-work_after
-returns-in-Rotate-clause-work_after c = pair_rotate dual_algebra _ _ _ _ _ _ _ _ _ _ _ _ _ _ (record { entry = search rules; first = search rules; second = search rules }) c.choose.ensures _ _ c.in-Rotate.is c.angle.ensures c.rotate.ensures.work_after
+returns-in-Rotate-clause-work_after c = pair_rotate dual_algebra _ _ _ _ _ _ _ _ _ _ _ _ _ _ (record { entry = search rules; first = search rules; second = search rules }) c.choice.ensures _ _ c.in-Rotate.is c.angle.ensures c.rotate.ensures.work_after

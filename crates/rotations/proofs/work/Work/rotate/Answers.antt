@@ -12,7 +12,6 @@ shift-requires c = let v = c.args.self.now.gains in record { p_held = value_held
 pub shift-requires-2 : goal.shift-requires-2
 shift-requires-2 c = let v = c.args.self.now.values in record { p_held = value_held _ _ _ v (omega arith); q_held = value_held _ _ _ v (omega arith) }
 
--- the vectors' matrix has as many columns as a
+-- the four calls
 pub returns-clause-work_after : goal.returns-clause-work_after
-returns-clause-work_after c =
-    rotate_by dual_algebra _ _ _ _ _ _ _ _ _ _ _ _ _ _ _ c.turn_above.ensures.entries_after (rw c.args.self.now.vectors at c.turn_columns.ensures.entries_after) c.shift-2.ensures c.shift.ensures
+returns-clause-work_after c = rotate_by dual_algebra _ _ _ _ _ _ _ _ _ _ _ _ _ _ _ c.turn_above.ensures.a_after c.turn_columns.ensures.a_after c.shift-2.ensures c.shift.ensures

@@ -1,7 +1,0 @@
--- The loop ends: fewer cases are left after each.
-use Rattle.replay.proofs.Falls.{falls}
-use borrow.Author.Rules.{rules}
-use Rattle.replay_lu.proofs.cases.Goals as goal
-
-pub loop-run-smaller : goal.loop-run-smaller
-loop-run-smaller c = search (rules, falls)

@@ -1,2 +1,0 @@
--- The two records that the matrices are replayed over. Definitions only.
-pub mod Over

@@ -1,0 +1,75 @@
+// What the files have of matrices, read into lent buffers. All that is asked for is read, also where a part before it is cut.
+ghost use Rattle.std.specs.Prelude.{◌*◌, ◌≡◌, ◌≤◌, IfOk, length};
+ghost use Rattle.refusals.specs.Largest as largest;
+ghost use Rattle.replay_matrices.specs.Room.{most_floats, most_in_row};
+
+use records::Record;
+use replay::{Cut, Reader};
+use std::fs::File;
+
+// How many digits the word of a float has; a size, an entry of an order, a number of an answer.
+const FLOAT: u32 = 16;
+
+const NUMBER: u32 = 2;
+
+// How many floats a matrix of n by n records has, and a row of it.
+pub(crate) fn floats_in<R: Record>(n: usize) -> usize
+    requires { n ≤ largest.n }
+    ensures { result ≤ most_floats }
+{
+    replay_matrices::floats_in(n, R::width())
+}
+
+pub(crate) fn floats_in_row<R: Record>(n: usize) -> usize
+    requires { n ≤ largest.n }
+    ensures { result ≤ most_in_row }
+{
+    replay_matrices::floats_in_row(n, R::width())
+}
+
+// The numbers that a case begins with: the size, which is answered, and those beside it.
+pub(crate) fn head(reader: &mut Reader<File>, numbers: &mut [u64]) -> Result<usize, Cut>
+    ensures { IfOk result (λ n. n ≤ largest.n) }
+{
+    reader.read_words(NUMBER, numbers)?;
+    let size = *numbers.first().ok_or(Cut)?;
+    if size > refusals::LARGEST_N as u64 {
+        return Err(Cut);
+    }
+    Ok(size as usize)
+}
+
+// Floats, by their words.
+pub(crate) fn words(reader: &mut Reader<File>, words: &mut [u64]) -> Result<(), Cut> {
+    reader.read_words(FLOAT, words)
+}
+
+// The entries of an order, then the words of a matrix.
+pub(crate) fn order_and_words(
+    reader: &mut Reader<File>,
+    entries: &mut [u64],
+    words: &mut [u64],
+) -> Result<(), Cut> {
+    let order = reader.read_words(NUMBER, entries);
+    let floats = reader.read_words(FLOAT, words);
+    order.and(floats)
+}
+
+// The order and the factors that solve, determinant and inverse are handed.
+pub(crate) fn factors(
+    reader: &mut Reader<File>,
+    order: &mut [usize],
+    factors: &mut [f64],
+) -> Result<(), Cut>
+    requires order_fits { length order.old ≤ largest.n }
+    requires factors_fit { length factors.old ≤ most_floats }
+{
+    let mut entries = [7u64; refusals::LARGEST_N];
+    let mut words = [7u64; replay_matrices::MOST_FLOATS];
+    let entries = &mut entries[..order.len()];
+    let words = &mut words[..factors.len()];
+    let read = order_and_words(reader, entries, words);
+    replay_matrices::order_of(entries, order);
+    floats::words::read(words, factors);
+    read
+}
