@@ -1,7 +1,7 @@
 // What a record type answers to a case, by its function's number (oracle/README.md), and whether it is what the file has.
-ghost use Rattle.std.specs.Prelude.{◌≡◌, ◌&&◌, ◌<◌, length};
+ghost use Rattle.std.specs.Prelude.{◌≡◌, ◌%◌, ◌&&◌, ◌<◌, length};
 ghost use Rattle.refusals.specs.Refused.{answer_number};
-ghost use Rattle.replay_table.specs.Table.{same_answer};
+ghost use Rattle.replay_table.specs.Table.{same_answer, exponent_of};
 ghost use Rattle.replay_records.specs.Kinds.{joined_of, answer_of, same_method_of};
 
 use dual::Dual;
@@ -12,7 +12,9 @@ use hyperdual::HyperDual;
 use hyperhyperdual::HyperHyperDual;
 use kinds::Kind;
 use refusals::Refusal;
+use replay_table::read::Case;
 
+// Kept: numbers in place of an enum, since the files name a function by its number in oracle/README.md.
 const NDERIV: u32 = 0x03;
 
 const SUM: u32 = 0x39;
@@ -47,34 +49,33 @@ fn joined(
     answer
 }
 
-// What a function answers, and its words in out.
+// What a case's function answers, and its words in out.
 #[tactic(auto, unfolding(crate::specs::Kinds::answer_of))]
 pub(crate) fn answer(
     kind: Kind,
-    function: u32,
-    exponent: i32,
-    records: &[u64],
-    floats: &[u64],
+    case: Case,
     run: &mut [f64],
     left: &mut [f64],
     out: &mut [u64],
 ) -> Result<(), Refusal>
     requires out_len { length out.old ≡ length left.old }
     requires out_nonzero { 0 < length out.old }
-    ensures { (answer_number result, out.new) ≡ answer_of kind function exponent records.now floats.now (length run.old) left.old out.old }
+    ensures { (answer_number result, out.new) ≡ answer_of kind (case.entry.function % 0x100) (exponent_of case.entry.exponent) case.entry.records.now case.entry.floats.now (length run.old) left.old out.old }
 {
+    let function = (case.function % 0x100) as u32;
+    let exponent = replay_table::exponent(case.exponent);
     match function {
         NDERIV => {
             out[0] = kind.nderiv() as u64;
             Ok(())
         }
-        SUM | PRODUCT => joined(kind, function, records, run, left, out),
+        SUM | PRODUCT => joined(kind, function, case.records, run, left, out),
         PREDICATES..=LAST_PREDICATE => {
-            let answer = kind.call(function, exponent, records, floats, out);
+            let answer = kind.call(function, exponent, case.records, case.floats, out);
             out[0] = replay_table::truth(out[0]);
             answer
         }
-        _ => kind.call(function, exponent, records, floats, out),
+        _ => kind.call(function, exponent, case.records, case.floats, out),
     }
 }
 
@@ -94,18 +95,9 @@ fn same_method(kind: Kind, function: u64, records: &[u64], floats: &[u64], wante
 }
 
 // Whether both the call and the record's own method give the file's answer.
-pub(crate) fn same_case(
-    kind: Kind,
-    function: u64,
-    records: &[u64],
-    floats: &[u64],
-    wanted: u64,
-    words: &[u64],
-    number: u64,
-    out: &[u64],
-) -> bool
-    ensures { result ≡ (same_answer wanted words.now number out.now && same_method_of kind function records.now floats.now words.now) }
+pub(crate) fn same_case(kind: Kind, case: Case, number: u64, out: &[u64]) -> bool
+    ensures { result ≡ (same_answer case.entry.number case.entry.answer.now number out.now && same_method_of kind case.entry.function case.entry.records.now case.entry.floats.now case.entry.answer.now) }
 {
-    replay_table::same_answer(wanted, words, number, out)
-        && same_method(kind, function, records, floats, words)
+    replay_table::same_answer(case.number, case.answer, number, out)
+        && same_method(kind, case.function, case.records, case.floats, case.answer)
 }

@@ -7,25 +7,21 @@ mod print;
 
 ghost use Rattle.std.specs.Prelude.{◌≡◌, ◌<◌, ◌≤◌, length, take, replicate};
 ghost use Rattle.real.specs.Operations as float;
-ghost use Rattle.replay_table.specs.Table.{most_words, most_answer};
+ghost use Rattle.replay_table.specs.Table.{most_words, most_answer, exponent_of};
 ghost use Rattle.replay_records.specs.Kinds.{same_recorded};
 
 use kinds::Kind;
 use refusals::answer_number;
 use replay::tally::Tally;
 use replay::{Cut, Reader};
+use replay_table::read::{Case, read_case};
 use std::fs::File;
 
-// Whether a case that was read is the same; one that differs is printed, where it is `told`.
+// Whether a case is the same; one that differs is printed, where it is `told`.
 #[tactic(auto, unfolding(crate::specs::Kinds::same_recorded))]
 fn case_of(
     kind: Kind,
-    function: u64,
-    exponent: i32,
-    records: &[u64],
-    floats: &[u64],
-    wanted: u64,
-    words: &[u64],
+    case: Case,
     run: &mut [f64],
     left: &mut [f64],
     out: &mut [u64],
@@ -33,53 +29,30 @@ fn case_of(
 ) -> bool
     requires out_len { length out.old ≡ length left.old }
     requires out_nonzero { 0 < length out.old }
-    ensures { result ≡ same_recorded kind function exponent records.now floats.now wanted words.now (length run.old) left.old out.old }
+    ensures { result ≡ same_recorded kind case.entry.function (exponent_of case.entry.exponent) case.entry.records.now case.entry.floats.now case.entry.number case.entry.answer.now (length run.old) left.old out.old }
 {
-    let number = answer_number(answers::answer(
-        kind,
-        (function % 0x100) as u32,
-        exponent,
-        records,
-        floats,
-        run,
-        left,
-        out,
-    )) as u64;
-    let same = answers::same_case(kind, function, records, floats, wanted, words, number, out);
+    let number = answer_number(answers::answer(kind, case, run, left, out)) as u64;
+    let same = answers::same_case(kind, case, number, out);
     if !same && told {
-        print::case(function, number, out, wanted, words);
+        print::case(case, number, out);
     }
     same
 }
 
 // The same in buffers of its own: as long as the run that a case has, and as its answer.
-fn case_in_buffers(
-    kind: Kind,
-    function: u64,
-    exponent: i32,
-    records: &[u64],
-    floats: &[u64],
-    wanted: u64,
-    words: &[u64],
-    told: bool,
-) -> bool
-    requires records_fit { length records.now ≤ most_words }
-    requires words_fit { (0 < length words.now) × (length words.now ≤ most_answer) }
-    ensures { result ≡ same_recorded kind function exponent records.now floats.now wanted words.now (length records.now) (take (length words.now) (replicate most_answer float.zero)) (take (length words.now) (replicate most_answer 0)) }
+fn case_in_buffers(kind: Kind, case: Case, told: bool) -> bool
+    requires records_fit { length case.records.now ≤ most_words }
+    requires words_fit { (0 < length case.answer.now) × (length case.answer.now ≤ most_answer) }
+    ensures { result ≡ same_recorded kind case.entry.function (exponent_of case.entry.exponent) case.entry.records.now case.entry.floats.now case.entry.number case.entry.answer.now (length case.entry.records.now) (take (length case.entry.answer.now) (replicate most_answer float.zero)) (take (length case.entry.answer.now) (replicate most_answer 0)) }
 {
-    let n = records.len();
-    let size = words.len();
+    let n = case.records.len();
+    let size = case.answer.len();
     let mut run = [0.0f64; replay_table::WORDS];
     let mut left = [0.0f64; replay_table::ANSWER];
     let mut out = [0u64; replay_table::ANSWER];
     case_of(
         kind,
-        function,
-        exponent,
-        records,
-        floats,
-        wanted,
-        words,
+        case,
         &mut run[..n],
         &mut left[..size],
         &mut out[..size],
@@ -98,7 +71,7 @@ fn case(
     let mut words = [0u64; replay_table::WORDS];
     let mut floats = [0u64; 2];
     let mut answer = [0u64; replay_table::ANSWER];
-    let case = replay_table::read::read_case(
+    let case = read_case(
         reader,
         pool,
         kind.width(),
@@ -107,16 +80,7 @@ fn case(
         &mut answer,
     );
     let told = case.function != last || count.different == 0;
-    let same = case_in_buffers(
-        kind,
-        case.function,
-        replay_table::exponent(case.exponent),
-        case.records,
-        case.floats,
-        case.number,
-        case.answer,
-        told,
-    );
+    let same = case_in_buffers(kind, case, told);
     (case.function, case.whole.and(Ok(same)))
 }
 

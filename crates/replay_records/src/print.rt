@@ -1,5 +1,6 @@
 // What is printed of a function and of a case that differs.
 use replay::tally::Tally;
+use replay_table::read::Case;
 
 // The descriptor of standard output.
 const STDOUT: i32 = 1;
@@ -28,11 +29,11 @@ fn answer(number: u64, words: &[u64]) {
 }
 
 // FUNCTION: got ANSWER, wanted ANSWER.
-pub(crate) fn case(function: u64, number: u64, words: &[u64], wanted_number: u64, wanted: &[u64]) {
-    name(function);
+pub(crate) fn case(case: Case, number: u64, words: &[u64]) {
+    name(case.function);
     io::write_all(STDOUT, b": got ");
     answer(number, words);
     io::write_all(STDOUT, b", wanted ");
-    answer(wanted_number, wanted);
+    answer(case.number, case.answer);
     io::write_all(STDOUT, b"\n");
 }
