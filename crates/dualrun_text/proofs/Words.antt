@@ -1,7 +1,7 @@
 -- The words of the matrix: each reader's answer by its tests, and the lines whole. Assumes nothing.
 use Prim.Native.Nat.{ℕ, ◌+◌, ◌*◌, ◌<◌, ◌≤◌}
 use mathlib.Core.Path.{◌≡◌, refl, sym, ap, ◌∙◌}
-use mathlib.Core.Bool.{Bool, true, false, cond, ◌&&◌, true≢false}
+use mathlib.Core.Bool.{Bool, true, false, cond, ◌&&◌}
 use mathlib.Core.List.{List}
 use native.Mathlib.Omega.{arith}
 use lib.Dec.{eqb}
@@ -15,7 +15,7 @@ use Rattle.algebra.specs.Flat.{tabulate}
 use Rattle.algebra.proofs.Flat.{tabulate_length, tabulate_at}
 use Rattle.texts.specs.declared.Scan.{Scan}
 use Rattle.texts.specs.Digits.{byte_at, every, number_at, scan_of}
-use Rattle.texts.proofs.Every.{and_false, every_false, Passed, passed_none, passed_more, passed_all}
+use Rattle.texts.proofs.Every.{and_false, every_false, Passed, passed_more, passed_all}
 use Rattle.dualrun_text.specs.Body.{word_digits, word_bytes, separator_of, is_word, word_of, word_at, is_body, float_at, floats_from}
 
 -- ---- word number i, by the tests of its reader
