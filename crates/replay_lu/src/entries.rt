@@ -1,56 +1,42 @@
 // A case of each entry, in buffers of the lengths of a case of n: read, called, compared.
 use crate::over;
-use replay::tally::Compared;
-use replay::{Place, Read};
+use replay::{Cut, Reader};
 use replay_matrices::Numbers;
+use std::fs::File;
 
 // The order and the factors that solve, determinant and inverse are handed.
 fn read_factors(
-    file: i32,
-    buffer: &mut [u8; replay::BUFFER],
-    place: Place,
+    reader: &mut Reader<File>,
     words: &mut [u64],
     numbers: &mut [u64],
     factors: &mut [f64],
     order: &mut [usize],
-) -> Read {
-    let first = replay::read_words(file, buffer, place, 2, numbers);
-    let place = first.place;
-    let second = replay::read_words(file, buffer, place, 16, words);
-    let place = second.place;
-    let whole = first.whole && second.whole;
+) -> Result<(), Cut> {
+    let first = reader.read_words(2, numbers);
+    let second = reader.read_words(16, words);
     replay_matrices::order_of(numbers, order);
     floats::words::read(words, factors);
-    Read { place, whole }
+    first.and(second)
 }
 
 // The order and the factors that LU left, where it was done.
 fn read_left(
-    file: i32,
-    buffer: &mut [u8; replay::BUFFER],
-    place: Place,
+    reader: &mut Reader<File>,
     number: u64,
     words: &mut [u64],
     numbers: &mut [u64],
-) -> Read {
+) -> Result<(), Cut> {
     if number != 0 {
-        return Read { place, whole: true };
+        return Ok(());
     }
-    let first = replay::read_words(file, buffer, place, 2, numbers);
-    let place = first.place;
-    let second = replay::read_words(file, buffer, place, 16, words);
-    let place = second.place;
-    Read {
-        place,
-        whole: first.whole && second.whole,
-    }
+    let first = reader.read_words(2, numbers);
+    let second = reader.read_words(16, words);
+    first.and(second)
 }
 
 pub(crate) fn lu(
     width: usize,
-    file: i32,
-    buffer: &mut [u8; replay::BUFFER],
-    place: Place,
+    reader: &mut Reader<File>,
     n: usize,
     wanted: Numbers,
     words: &mut [u64],
@@ -58,23 +44,18 @@ pub(crate) fn lu(
     a: &mut [f64],
     order: &mut [usize],
     factors: &mut [f64],
-) -> Compared {
-    let matrix = replay::read_words(file, buffer, place, 16, words);
-    let place = matrix.place;
+) -> Result<bool, Cut> {
+    let matrix = reader.read_words(16, words);
     floats::words::read(words, a);
-    let left = read_left(file, buffer, place, wanted.number, words, numbers);
-    let place = left.place;
-    let whole = matrix.whole && left.whole;
+    let left = read_left(reader, wanted.number, words, numbers);
+    matrix.and(left)?;
     let answer = over::lu(width, n, a, factors, order);
-    let same = replay_matrices::same_lu(wanted, numbers, words, answer, order, factors);
-    Compared { place, whole, same }
+    Ok(replay_matrices::same_lu(wanted, numbers, words, answer, order, factors))
 }
 
 pub(crate) fn solve(
     width: usize,
-    file: i32,
-    buffer: &mut [u8; replay::BUFFER],
-    place: Place,
+    reader: &mut Reader<File>,
     n: usize,
     words: &mut [u64],
     numbers: &mut [u64],
@@ -83,25 +64,19 @@ pub(crate) fn solve(
     column: &mut [u64],
     b: &mut [f64],
     x: &mut [f64],
-) -> Compared {
-    let given = read_factors(file, buffer, place, words, numbers, factors, order);
-    let place = given.place;
-    let right = replay::read_words(file, buffer, place, 16, column);
-    let place = right.place;
+) -> Result<bool, Cut> {
+    let given = read_factors(reader, words, numbers, factors, order);
+    let right = reader.read_words(16, column);
     floats::words::read(column, b);
-    let solution = replay::read_words(file, buffer, place, 16, column);
-    let place = solution.place;
-    let whole = given.whole && right.whole && solution.whole;
+    let solution = reader.read_words(16, column);
+    given.and(right).and(solution)?;
     let answer = over::solve(width, n, factors, order, b, x);
-    let same = replay_matrices::same_solved(column, answer, x);
-    Compared { place, whole, same }
+    Ok(replay_matrices::same_solved(column, answer, x))
 }
 
 pub(crate) fn determinant(
     width: usize,
-    file: i32,
-    buffer: &mut [u8; replay::BUFFER],
-    place: Place,
+    reader: &mut Reader<File>,
     n: usize,
     swaps: u64,
     words: &mut [u64],
@@ -109,34 +84,26 @@ pub(crate) fn determinant(
     factors: &mut [f64],
     order: &mut [usize],
     record: &mut [u64],
-) -> Compared {
-    let given = read_factors(file, buffer, place, words, numbers, factors, order);
-    let place = given.place;
-    let wanted = replay::read_words(file, buffer, place, 16, record);
-    let place = wanted.place;
-    let whole = given.whole && wanted.whole;
-    let same = over::same_determinant(width, record, n, factors, order, swaps as usize);
-    Compared { place, whole, same }
+) -> Result<bool, Cut> {
+    let given = read_factors(reader, words, numbers, factors, order);
+    let wanted = reader.read_words(16, record);
+    given.and(wanted)?;
+    Ok(over::same_determinant(width, record, n, factors, order, swaps as usize))
 }
 
 pub(crate) fn inverse(
     width: usize,
-    file: i32,
-    buffer: &mut [u8; replay::BUFFER],
-    place: Place,
+    reader: &mut Reader<File>,
     n: usize,
     words: &mut [u64],
     numbers: &mut [u64],
     factors: &mut [f64],
     order: &mut [usize],
     out: &mut [f64],
-) -> Compared {
-    let given = read_factors(file, buffer, place, words, numbers, factors, order);
-    let place = given.place;
-    let wanted = replay::read_words(file, buffer, place, 16, words);
-    let place = wanted.place;
-    let whole = given.whole && wanted.whole;
+) -> Result<bool, Cut> {
+    let given = read_factors(reader, words, numbers, factors, order);
+    let wanted = reader.read_words(16, words);
+    given.and(wanted)?;
     let answer = over::inverse(width, n, factors, order, out);
-    let same = replay_matrices::same_solved(words, answer, out);
-    Compared { place, whole, same }
+    Ok(replay_matrices::same_solved(words, answer, out))
 }

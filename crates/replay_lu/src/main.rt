@@ -12,11 +12,9 @@ ghost use Rattle.refusals.specs.Largest as largest;
 ghost use Rattle.replay_matrices.specs.Room.{widest};
 ghost use Rattle.replay_lu.specs.Over.{fields_of};
 
-use replay::tally::{Compared, Tally};
-use replay::{Place, tally};
+use replay::{Cut, Reader, tally};
 use replay_matrices::Numbers;
 use std::fs::File;
-use std::os::fd::AsRawFd;
 
 // The entry that a file is of.
 const LU: u8 = 0;
@@ -42,13 +40,11 @@ fn fields(entry: u8) -> usize
 fn case_of(
     entry: u8,
     width: usize,
-    file: i32,
-    buffer: &mut [u8; replay::BUFFER],
-    place: Place,
+    reader: &mut Reader<File>,
     n: usize,
     first: u64,
     second: u64,
-) -> Compared
+) -> Result<bool, Cut>
     requires { (n ≤ largest.n) × (width ≤ widest) }
 {
     match entry {
@@ -57,59 +53,26 @@ fn case_of(
                 number: first,
                 swaps_or_column: second,
             };
-            rooms::lu(width, file, buffer, place, n, wanted)
+            rooms::lu(width, reader, n, wanted)
         }
-        SOLVE => rooms::solve(width, file, buffer, place, n),
-        DETERMINANT => rooms::determinant(width, file, buffer, place, n, first),
-        _ => rooms::inverse(width, file, buffer, place, n),
+        SOLVE => rooms::solve(width, reader, n),
+        DETERMINANT => rooms::determinant(width, reader, n, first),
+        _ => rooms::inverse(width, reader, n),
     }
 }
 
 // One case.
-fn case(
-    entry: u8,
-    width: usize,
-    file: i32,
-    buffer: &mut [u8; replay::BUFFER],
-    place: Place,
-) -> Compared
+fn case(entry: u8, width: usize, reader: &mut Reader<File>) -> Result<bool, Cut>
     requires { width ≤ widest }
 {
     let mut head = [0u64; 3];
     let count = fields(entry);
-    let read = replay::read_words(file, buffer, place, 2, &mut head[..count]);
-    let place = read.place;
+    reader.read_words(2, &mut head[..count])?;
     let size = head[0];
-    if !read.whole {
-        return tally::cut(place);
-    }
     if size > refusals::LARGEST_N as u64 {
-        return tally::cut(place);
+        return Err(Cut);
     }
-    case_of(
-        entry,
-        width,
-        file,
-        buffer,
-        place,
-        size as usize,
-        head[1],
-        head[2],
-    )
-}
-
-// Every case.
-fn cases(entry: u8, width: usize, file: i32) -> Tally
-    requires { width ≤ widest }
-{
-    let mut buffer = [0u8; replay::BUFFER];
-    let mut run = tally::begin(file, &mut buffer);
-    while run.left > 0 {
-        let place = run.place;
-        let c = case(entry, width, file, &mut buffer, place);
-        run = tally::after(run, c);
-    }
-    tally::ended(file, &mut buffer, run)
+    case_of(entry, width, reader, size as usize, head[1], head[2])
 }
 
 // Replays a file, and reports it by a name.
@@ -118,36 +81,33 @@ fn replay_file(
     entry: u8,
     width: usize,
     path: &str,
-    name: &[u8],
+    name: &str,
 ) -> std::io::Result<()>
     requires { width ≤ widest }
 {
-    let file = File::open(rt, path)?;
-    let t = cases(entry, width, file.as_raw_fd());
-    tally::report(name, t);
-    Ok(())
+    tally::replay_file(rt, path, name, |reader| case(entry, width, reader))
 }
 
 fn main(rt: HostRuntime) -> std::io::Result<()> {
-    replay_file(&rt, LU, 2, "lu.txt", b"lu")?;
-    replay_file(&rt, SOLVE, 2, "solve.txt", b"solve")?;
-    replay_file(&rt, DETERMINANT, 2, "determinant.txt", b"determinant")?;
-    replay_file(&rt, INVERSE, 2, "inverse.txt", b"inverse")?;
-    replay_file(&rt, LU, 4, "lu-hyperdual.txt", b"hyperdual lu")?;
-    replay_file(&rt, SOLVE, 4, "solve-hyperdual.txt", b"hyperdual solve")?;
+    replay_file(&rt, LU, 2, "lu.txt", "lu")?;
+    replay_file(&rt, SOLVE, 2, "solve.txt", "solve")?;
+    replay_file(&rt, DETERMINANT, 2, "determinant.txt", "determinant")?;
+    replay_file(&rt, INVERSE, 2, "inverse.txt", "inverse")?;
+    replay_file(&rt, LU, 4, "lu-hyperdual.txt", "hyperdual lu")?;
+    replay_file(&rt, SOLVE, 4, "solve-hyperdual.txt", "hyperdual solve")?;
     replay_file(
         &rt,
         DETERMINANT,
         4,
         "determinant-hyperdual.txt",
-        b"hyperdual determinant",
+        "hyperdual determinant",
     )?;
     replay_file(
         &rt,
         INVERSE,
         4,
         "inverse-hyperdual.txt",
-        b"hyperdual inverse",
+        "hyperdual inverse",
     )?;
     Ok(())
 }

@@ -4,18 +4,16 @@ ghost use Rattle.refusals.specs.Largest as largest;
 ghost use Rattle.replay_matrices.specs.Room.{widest};
 
 use crate::entries;
-use replay::Place;
-use replay::tally::Compared;
+use replay::{Cut, Reader};
 use replay_matrices::Numbers;
+use std::fs::File;
 
 pub(crate) fn lu(
     width: usize,
-    file: i32,
-    buffer: &mut [u8; replay::BUFFER],
-    place: Place,
+    reader: &mut Reader<File>,
     n: usize,
     wanted: Numbers,
-) -> Compared
+) -> Result<bool, Cut>
     requires { (n ≤ largest.n) × (width ≤ widest) }
 {
     let full = replay_matrices::floats_in(n, width);
@@ -26,9 +24,7 @@ pub(crate) fn lu(
     let mut out = [7.0f64; replay_matrices::MOST_FLOATS];
     entries::lu(
         width,
-        file,
-        buffer,
-        place,
+        reader,
         n,
         wanted,
         &mut words[..full],
@@ -39,13 +35,7 @@ pub(crate) fn lu(
     )
 }
 
-pub(crate) fn solve(
-    width: usize,
-    file: i32,
-    buffer: &mut [u8; replay::BUFFER],
-    place: Place,
-    n: usize,
-) -> Compared
+pub(crate) fn solve(width: usize, reader: &mut Reader<File>, n: usize) -> Result<bool, Cut>
     requires { (n ≤ largest.n) × (width ≤ widest) }
 {
     let full = replay_matrices::floats_in(n, width);
@@ -59,9 +49,7 @@ pub(crate) fn solve(
     let mut x = [7.0f64; replay_matrices::MOST_IN_ROW];
     entries::solve(
         width,
-        file,
-        buffer,
-        place,
+        reader,
         n,
         &mut words[..full],
         &mut numbers[..n],
@@ -75,12 +63,10 @@ pub(crate) fn solve(
 
 pub(crate) fn determinant(
     width: usize,
-    file: i32,
-    buffer: &mut [u8; replay::BUFFER],
-    place: Place,
+    reader: &mut Reader<File>,
     n: usize,
     swaps: u64,
-) -> Compared
+) -> Result<bool, Cut>
     requires { (n ≤ largest.n) × (width ≤ widest) }
 {
     let full = replay_matrices::floats_in(n, width);
@@ -91,9 +77,7 @@ pub(crate) fn determinant(
     let mut record = [7u64; replay_matrices::WIDEST];
     entries::determinant(
         width,
-        file,
-        buffer,
-        place,
+        reader,
         n,
         swaps,
         &mut words[..full],
@@ -104,13 +88,7 @@ pub(crate) fn determinant(
     )
 }
 
-pub(crate) fn inverse(
-    width: usize,
-    file: i32,
-    buffer: &mut [u8; replay::BUFFER],
-    place: Place,
-    n: usize,
-) -> Compared
+pub(crate) fn inverse(width: usize, reader: &mut Reader<File>, n: usize) -> Result<bool, Cut>
     requires { (n ≤ largest.n) × (width ≤ widest) }
 {
     let full = replay_matrices::floats_in(n, width);
@@ -121,9 +99,7 @@ pub(crate) fn inverse(
     let mut out = [7.0f64; replay_matrices::MOST_FLOATS];
     entries::inverse(
         width,
-        file,
-        buffer,
-        place,
+        reader,
         n,
         &mut words[..full],
         &mut numbers[..n],

@@ -12,16 +12,9 @@ ghost use Rattle.replay_table.specs.Table.{most_words, most_answer};
 ghost use Rattle.replay_records.specs.Kinds.{same_recorded};
 
 use kinds::Kind;
-use replay::tally::{Compared, Tally};
-use replay::{Place, tally};
-use std::os::fd::AsRawFd;
-
-// A case, with its function.
-#[derive(Clone, Copy)]
-struct Told {
-    function: u64,
-    compared: Compared,
-}
+use replay::tally::Tally;
+use replay::{Cut, Reader};
+use std::fs::File;
 
 // Whether a case that was read is the same; one that differs is printed, where it is `told`.
 fn case_of(
@@ -95,110 +88,94 @@ fn case_in_buffers(
     )
 }
 
-// One case. Of the function `last` so many were compared so far; the first that differs of each is printed.
+// The cases of the function that the last one is of.
+#[derive(Clone, Copy)]
+struct Told {
+    function: u64,
+    count: Tally,
+}
+
+impl Told {
+    // Another function is told of once the next one begins.
+    fn begin(&mut self, function: u64) {
+        if function != self.function {
+            print::function(self.function, self.count);
+            self.count = Tally::none();
+        }
+        self.function = function;
+    }
+}
+
+// One case; the first that differs of each function is printed, even one that is cut.
 fn case(
     kind: Kind,
-    file: i32,
-    buffer: &mut [u8; replay::BUFFER],
-    place: Place,
+    reader: &mut Reader<File>,
     pool: &[u64; 256],
-    last: u64,
-    count: Tally,
-) -> Told {
+    told: &mut Told,
+) -> Result<bool, Cut> {
     let mut words = [0u64; replay_table::WORDS];
     let mut outside = [0u64; 2];
     let mut answer = [0u64; replay_table::ANSWER];
-    let parts = kinds::parts(kind);
     let c = replay_table::read::read_case(
-        file,
-        buffer,
-        place,
+        reader,
         pool,
-        parts,
+        kinds::parts(kind),
         &mut words,
         &mut outside,
         &mut answer,
     );
-    let place = c.place;
-    let n = c.records;
-    let m = c.floats;
-    let size = c.answer;
-    let function = c.function;
-    let told = function != last || count.different == 0;
-    let exponent = replay_table::exponent(c.exponent);
+    let first = c.function != told.function || told.count.different == 0;
     let same = case_in_buffers(
         kind,
-        function,
-        exponent,
-        &words[..n],
-        &outside[..m],
+        c.function,
+        replay_table::exponent(c.exponent),
+        c.records,
+        c.floats,
         c.number,
-        &answer[..size],
-        told,
+        c.answer,
+        first,
     );
-    let whole = c.whole;
-    let compared = Compared { place, whole, same };
-    Told { function, compared }
+    told.begin(c.function);
+    told.count.count(c.whole.is_ok() && same);
+    c.whole?;
+    Ok(same)
 }
 
-// Every case: a line for each function, as they come.
-fn cases(kind: Kind, file: i32) -> Tally {
-    let mut buffer = [0u8; replay::BUFFER];
+// Replays a file, and reports it by a name: before the whole a line for each function, as they come.
+fn replay_file(rt: &HostRuntime, kind: Kind, path: &str, name: &str) -> std::io::Result<()> {
     let mut pool = [0u64; 256];
-    let begun = tally::begin(file, &mut buffer);
-    let place = begun.place;
-    let read = replay::read_words(file, &mut buffer, place, 16, &mut pool);
-    let mut run = tally::begun(begun, read);
-    let mut function = 0u64;
-    let mut count = tally::none();
-    while run.left > 0 {
-        let place = run.place;
-        let told = case(kind, file, &mut buffer, place, &pool, function, count);
-        let compared = told.compared;
-        if told.function != function {
-            print::function(function, count);
-            count = tally::none();
-        }
-        function = told.function;
-        count = tally::counted(count, compared.whole && compared.same);
-        run = tally::after(run, compared);
-    }
-    print::function(function, count);
-    tally::ended(file, &mut buffer, run)
-}
-
-// Replays a file, and reports it by a name.
-fn replay_file(rt: &HostRuntime, kind: Kind, path: &str, name: &[u8]) -> std::io::Result<()> {
-    let file = std::fs::open(rt, path)?;
-    let t = cases(kind, file.as_raw_fd());
-    tally::report(name, t);
+    let mut told = Told {
+        function: 0,
+        count: Tally::none(),
+    };
+    let mut reader = Reader::new(File::open(rt, path)?);
+    let mut run = reader.begin();
+    run.begin(reader.read_words(16, &mut pool));
+    reader.cases(&mut run, |reader| case(kind, reader, &pool, &mut told));
+    print::function(told.function, told.count);
+    reader.end(run).report(name);
     Ok(())
 }
 
 fn main(rt: HostRuntime) -> std::io::Result<()> {
-    replay_file(&rt, Kind::Dual, "records-dual.txt", b"dual")?;
-    replay_file(&rt, Kind::Dual, "runs-dual.txt", b"dual runs")?;
-    replay_file(&rt, Kind::Dual2, "records-dual2.txt", b"dual2")?;
-    replay_file(&rt, Kind::Dual2, "runs-dual2.txt", b"dual2 runs")?;
-    replay_file(&rt, Kind::Dual3, "records-dual3.txt", b"dual3")?;
-    replay_file(&rt, Kind::Dual3, "runs-dual3.txt", b"dual3 runs")?;
-    replay_file(&rt, Kind::HyperDual, "records-hyperdual.txt", b"hyperdual")?;
-    replay_file(
-        &rt,
-        Kind::HyperDual,
-        "runs-hyperdual.txt",
-        b"hyperdual runs",
-    )?;
+    replay_file(&rt, Kind::Dual, "records-dual.txt", "dual")?;
+    replay_file(&rt, Kind::Dual, "runs-dual.txt", "dual runs")?;
+    replay_file(&rt, Kind::Dual2, "records-dual2.txt", "dual2")?;
+    replay_file(&rt, Kind::Dual2, "runs-dual2.txt", "dual2 runs")?;
+    replay_file(&rt, Kind::Dual3, "records-dual3.txt", "dual3")?;
+    replay_file(&rt, Kind::Dual3, "runs-dual3.txt", "dual3 runs")?;
+    replay_file(&rt, Kind::HyperDual, "records-hyperdual.txt", "hyperdual")?;
+    replay_file(&rt, Kind::HyperDual, "runs-hyperdual.txt", "hyperdual runs")?;
     replay_file(
         &rt,
         Kind::HyperHyperDual,
         "records-hyperhyperdual.txt",
-        b"hyperhyperdual",
+        "hyperhyperdual",
     )?;
     replay_file(
         &rt,
         Kind::HyperHyperDual,
         "runs-hyperhyperdual.txt",
-        b"hyperhyperdual runs",
+        "hyperhyperdual runs",
     )
 }

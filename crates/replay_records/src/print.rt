@@ -1,5 +1,4 @@
 // What is printed of a function and of a case that differs.
-use replay::tally;
 use replay::tally::Tally;
 
 // The descriptor of standard output.
@@ -15,7 +14,7 @@ fn name(function: u64) {
 pub(crate) fn function(function: u64, count: Tally) {
     if count.compared != 0 {
         name(function);
-        tally::report(b"", count);
+        count.report("");
     }
 }
 
