@@ -1,9 +1,9 @@
 // What a call answers and leaves, compared with what a file has.
 ghost use Rattle.std.specs.Prelude.{◌≡◌};
-ghost use Rattle.market.specs.Answers.{market_outcome};
+ghost use Rattle.algebra.specs.Outcome.{outcome};
 ghost use Rattle.replay_market.specs.Cases.{recorded_of, same_answer, same_size, same_page, same_read, same_write};
 
-use market::MarketAnswer;
+use refusals::Refusal;
 use replay::same::{all_have, same_words};
 
 // The word of every lent float before a call, 1.5, and every lent byte: no matrix that is read has the one, no text that is written the other.
@@ -18,17 +18,17 @@ pub(crate) struct Recorded {
     pub count: u64,
 }
 
-impl From<MarketAnswer> for Recorded {
-    ghost from_gives = { λ answer r. r ≡ recorded_of (market_outcome answer) };
+impl From<Result<usize, Refusal>> for Recorded {
+    ghost from_gives = { λ answer r. r ≡ recorded_of (outcome answer) };
 
-    fn from(answer: MarketAnswer) -> Recorded {
+    fn from(answer: Result<usize, Refusal>) -> Recorded {
         match answer {
-            MarketAnswer::Done { count } => Recorded {
+            Ok(count) => Recorded {
                 number: 0,
                 count: count as u64,
             },
-            MarketAnswer::Refused { number } => Recorded {
-                number: number as u64,
+            Err(refusal) => Recorded {
+                number: u64::from(refusal.number()),
                 count: 0,
             },
         }
@@ -37,16 +37,16 @@ impl From<MarketAnswer> for Recorded {
 
 // Whether an answer is the recorded one.
 #[tactic(auto, unfolding(crate::specs::Cases::same_answer))]
-fn same_answer(wanted: Recorded, answer: MarketAnswer) -> bool
-    ensures { result ≡ same_answer wanted (market_outcome answer) }
+fn same_answer(wanted: Recorded, answer: Result<usize, Refusal>) -> bool
+    ensures { result ≡ same_answer wanted (outcome answer) }
 {
     wanted == Recorded::from(answer)
 }
 
 // Whether the size of a text has the recorded number and, where the reader was done, the recorded n.
 #[tactic(auto, unfolding(crate::specs::Cases::same_size))]
-fn same_size(wanted: Recorded, wanted_size: u64, size: MarketAnswer) -> bool
-    ensures { result ≡ same_size wanted wanted_size (market_outcome size) }
+fn same_size(wanted: Recorded, wanted_size: u64, size: Result<usize, Refusal>) -> bool
+    ensures { result ≡ same_size wanted wanted_size (outcome size) }
 {
     let got = Recorded::from(size);
     wanted_size == got.number && (wanted.number != 0 || wanted.count == got.count)
@@ -69,11 +69,11 @@ pub(crate) fn same_read(
     wanted: Recorded,
     wanted_size: u64,
     words: &[u64],
-    answer: MarketAnswer,
-    size: MarketAnswer,
+    answer: Result<usize, Refusal>,
+    size: Result<usize, Refusal>,
     floats: &[f64],
 ) -> bool
-    ensures { result ≡ same_read wanted wanted_size words.now (market_outcome answer) (market_outcome size) floats.now }
+    ensures { result ≡ same_read wanted wanted_size words.now (outcome answer) (outcome size) floats.now }
 {
     if !same_answer(wanted, answer) || !same_size(wanted, wanted_size, size) {
         return false;
@@ -87,8 +87,8 @@ pub(crate) fn same_read(
 
 // Whether the writer answers what was recorded, and the lent bytes are the recorded text with zeros after it, or as they were where a refusal is recorded.
 #[tactic(auto, unfolding(crate::specs::Cases::same_write))]
-pub(crate) fn same_write(wanted: Recorded, text: &[u8], answer: MarketAnswer, bytes: &[u8]) -> bool
-    ensures { result ≡ same_write wanted text.now (market_outcome answer) bytes.now }
+pub(crate) fn same_write(wanted: Recorded, text: &[u8], answer: Result<usize, Refusal>, bytes: &[u8]) -> bool
+    ensures { result ≡ same_write wanted text.now (outcome answer) bytes.now }
 {
     if !same_answer(wanted, answer) {
         return false;

@@ -1,11 +1,14 @@
 // The entries over the record of a width.
 ghost use Rattle.std.specs.Prelude.{◌≡◌};
-ghost use Rattle.market.specs.Answers.{market_outcome, answered};
+ghost use Rattle.algebra.specs.Outcome.{outcome};
+ghost use Rattle.market.specs.Answers.{answered};
 ghost use Rattle.market.specs.Read.{read_left};
 ghost use Rattle.market.specs.Write.{write_left};
 ghost use Rattle.replay_market.specs.Cases.{width_of};
 
-use market::MarketAnswer;
+use dual::Dual;
+use hyperdual::HyperDual;
+use refusals::Refusal;
 use replay::Cut;
 
 // The records that a case says by the number of their floats.
@@ -27,20 +30,20 @@ impl TryFrom<u64> for Width {
     }
 }
 
-pub(crate) fn read(width: Width, text: &[u8], out: &mut [f64]) -> MarketAnswer
-    ensures { answered (market_outcome result) out.new ≡ read_left (width_of width) text.now out.old }
+pub(crate) fn read(width: Width, text: &[u8], out: &mut [f64]) -> Result<usize, Refusal>
+    ensures { answered (outcome result) out.new ≡ read_left (width_of width) text.now out.old }
 {
     match width {
-        Width::Dual => market_reader::read(text, out),
-        Width::HyperDual => market_reader::read_hyperdual(text, out),
+        Width::Dual => market_reader::read::<Dual>(text, out),
+        Width::HyperDual => market_reader::read::<HyperDual>(text, out),
     }
 }
 
-pub(crate) fn write(width: Width, n: usize, a: &[f64], text: &mut [u8]) -> MarketAnswer
-    ensures { answered (market_outcome result) text.new ≡ write_left (width_of width) n a.now text.old }
+pub(crate) fn write(width: Width, n: usize, a: &[f64], text: &mut [u8]) -> Result<usize, Refusal>
+    ensures { answered (outcome result) text.new ≡ write_left (width_of width) n a.now text.old }
 {
     match width {
-        Width::Dual => market_writer::write(n, a, text),
-        Width::HyperDual => market_writer::write_hyperdual(n, a, text),
+        Width::Dual => market_writer::write::<Dual>(n, a, text),
+        Width::HyperDual => market_writer::write::<HyperDual>(n, a, text),
     }
 }

@@ -10,6 +10,7 @@ fn next(x: u64) -> u64 {
 }
 
 // A float of an input: 1.0, or a whole number from -15 to 15.
+// Kept: the style is the file's number, and is tested here alone.
 fn value(style: u64, x: u64) -> f64 {
     if style == 0 {
         return 1.0;
@@ -17,22 +18,24 @@ fn value(style: u64, x: u64) -> f64 {
     ((x % 31) as u32) as f64 - 15.0
 }
 
-// The input of a style that begins after a number, as floats.
-pub fn floats(style: u64, start: u64, out: &mut [f64]) {
+// The input of a style that begins after a number: what each float of it is made into.
+fn fill<T: Copy, F: Fn(f64) -> T>(style: u64, start: u64, out: &mut [T], of: F)
+    requires { F.IsAlwaysCallable of }
+{
     let mut x = start;
-    for float in out.iter_mut() {
+    for item in out.iter_mut() {
         x = next(x);
-        *float = value(style, x);
+        *item = of(value(style, x));
     }
 }
 
-// The same by their words.
+// The input as floats, and by their words.
+pub fn floats(style: u64, start: u64, out: &mut [f64]) {
+    fill(style, start, out, |x| x);
+}
+
 pub fn words(style: u64, start: u64, out: &mut [u64]) {
-    let mut x = start;
-    for word in out.iter_mut() {
-        x = next(x);
-        *word = real::word_of_float(value(style, x));
-    }
+    fill(style, start, out, real::word_of_float);
 }
 
 // How an order differs from that in which entry i is i: two entries that are exchanged, and then one that is set. Places that are not there change nothing.
