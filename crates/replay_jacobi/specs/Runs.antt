@@ -3,8 +3,7 @@ use Rattle.std.specs.Prelude.{ℕ, ◌/◌, ◌%◌, Bool, false, cond, ◌&&◌
 use Rattle.std.specs.Float.{binary64, nan}
 use Rattle.std.specs.Float.Ieee.{of_bits}
 use Rattle.algebra.specs.Flat.{tabulate}
-use Rattle.algebra.specs.Outcome.{Outcome, value, refused}
-use Rattle.jacobi.specs.Answer.{outcome}
+use Rattle.algebra.specs.Outcome.{Outcome, value, refused, outcome}
 use Rattle.replay_matrices.specs.Cases.{same_floats}
 use Rattle.replay_jacobi.specs.declared.Recorded.{Recorded}
 use Rattle.replay_jacobi.specs.declared.Ran.{Ran}

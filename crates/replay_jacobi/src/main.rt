@@ -7,7 +7,7 @@ ghost use Rattle.std.specs.Prelude.{◌≡◌, ◌≤◌, ◌&&◌, IfOk};
 ghost use Rattle.refusals.specs.Largest as largest;
 ghost use Rattle.replay_jacobi.specs.Runs.{spoiled_at, spoiled_of, same_ran};
 
-use jacobi::JacobiAnswer;
+use refusals::Refusal;
 use replay::same::same_words;
 use replay::{Cut, Reader, tally};
 use std::fs::File;
@@ -81,7 +81,7 @@ struct Recorded<'a> {
 // What a run answers and leaves.
 #[derive(Clone, Copy)]
 struct Ran<'a> {
-    answer: JacobiAnswer,
+    answer: Result<usize, Refusal>,
     values: &'a [f64],
     vectors: &'a [f64],
 }
@@ -122,7 +122,7 @@ impl Room {
 fn same_run(wanted: Recorded, run: Ran) -> bool
     ensures { result ≡ same_ran wanted.entry run.entry }
 {
-    let JacobiAnswer::Done { sweeps } = run.answer else {
+    let Ok(sweeps) = run.answer else {
         return false;
     };
     wanted.sweeps == sweeps as u64
