@@ -59,6 +59,7 @@ fn refuse(n: usize, a: usize, limit: usize, values: usize, vectors: usize) -> Re
 }
 
 // The whole run over the matrix a, with the sums bw. Gives back the sweeps that did not stop at the threshold.
+// Kept: the sums go beside `Work`: tried, and of a struct within a struct the check does not tell the lender what is left.
 fn run(work: &mut Work, bw: &mut [f64], a: &[f64], limit: usize) -> usize
     requires square { Square 2 work.old.n a.now }
     requires sums { Vector work.old.n bw.old }
