@@ -39,7 +39,7 @@ fn subtract_row<R: Record>(n: usize, a: &mut [f64], i: usize, j: usize, x: R)
 {
     let to = j * n;
     let from = i * n;
-    // Kept, as the loops below over rows: two rows of one slice are read while one is written, record by record, so that no iterator is plainer than the range.
+    // Kept: here and over the rows below, two rows of one slice are read while one is written, record by record, so that no iterator is plainer than the range.
     for k in i + 1..n {
         subtract_record(a, to + k, from + k, x);
     }

@@ -68,7 +68,7 @@ fn less_row<R: Record>(
 {
     let row = i * a.n;
     let mut r = v;
-    // Kept, as the loops below over rows: a row's records and a vector's lie at different distances, and x is read while it is written: no iterator is plainer than the range.
+    // Kept: here and over the rows below, a row's records and a vector's lie at different distances, and x is read while it is written: no iterator is plainer than the range.
     for k in lo..hi {
         r = less_product(r, a.floats, row + k, x, place.at(k));
     }
