@@ -73,7 +73,7 @@ fn rows(page: &mut Writer, significand: u64, bits: u64) -> Found
     ensures last { result ≡ last_of (bits - 1) (start_of significand bits) }
 {
     let mut found = start::leading_bit(significand, bits);
-    while 0 < found.bit {
+    for _bit in 1..bits {
         let next = root::next_bit(found);
         row(page, found, next);
         found = next;

@@ -37,6 +37,7 @@ pub fn scan(text: &[u8], p: usize, base: u64, most: usize) -> Scan
     ensures { result ≡ scan_of base most text.now p }
 {
     let mut value = 0;
+    // Kept: over places and not over items, since the text may end before so many digits: the byte past its end is no digit.
     for k in 0..most {
         let Some(digit) = digit(base, byte_at(text, p + k)) else {
             return Scan { value, digits: k };

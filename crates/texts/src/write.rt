@@ -17,7 +17,7 @@ fn fitting(size: usize, at: usize, count: usize) -> usize
     size.saturating_sub(at).min(count)
 }
 
-// The decimal digits of n at the end of the array, the last first, and where they begin. By one loop: io::decimal divides once more, to count them first.
+// The decimal digits of n at the end of the array, the last first, and where they begin.
 // A lent array does not tell a proof its length, so that is required.
 fn spell(n: u64, digits: &mut [u8; 20]) -> usize
     requires { length digits.old ≡ 20 }
@@ -25,6 +25,7 @@ fn spell(n: u64, digits: &mut [u8; 20]) -> usize
 {
     let mut start = 19usize;
     let mut rest = n;
+    // Kept: it runs until one digit is left, which no range counts; io::decimal, the library's method, divides once more, to count the digits first.
     while 9 < rest {
         digits[start] = b'0' + (rest % 10) as u8;
         rest /= 10;

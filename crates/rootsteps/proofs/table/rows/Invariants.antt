@@ -4,8 +4,5 @@ use Rattle.rootsteps.specs.Start.{top_of, start_of}
 use Rattle.rootsteps.proofs.Rows.{Stepping}
 use Rattle.rootsteps.proofs.table.rows.Given as goal
 
-abbrev pub invariant-loop-found : goal.invariant-loop-found
-invariant-loop-found l = Stepping (l.significand * top_of l.bits) (l.bits - 1) (start_of l.significand l.bits) l.initial.page l.page l.found
-
-abbrev pub decreases-loop-found : goal.decreases-loop-found
-decreases-loop-found l = l.found.bit
+abbrev pub invariant-loop-bit : goal.invariant-loop-bit
+invariant-loop-bit l = Stepping (l.significand * top_of l.bits) (l.bits - 1) (start_of l.significand l.bits) l.initial.page l.page l.found (l.bits - l._bit)
