@@ -32,7 +32,7 @@ fn identity(n: usize, v: &mut [f64])
     ensures square { Square 2 n v.new }
     ensures v_after { dual_records v.new ≡ rule.identity dual_algebra n }
 {
-    floats::clear(v);
+    v.fill(0.0);
     put_ones(n, v);
 }
 
@@ -59,11 +59,11 @@ pub(crate) fn prepare(work: &mut Work, bw: &mut [f64], a: &[f64])
     ensures fresh { work.new.rotations ≡ 0 }
     ensures run_after { run_of work.new bw.new 0 ≡ start dual_algebra work.old.n (dual_records a.now) }
 {
-    floats::copy(a, work.a);
+    work.a.copy_from_slice(a);
     identity(work.n, work.v);
-    floats::clear(work.d);
-    floats::clear(work.zw);
-    floats::clear(bw);
+    work.d.fill(0.0);
+    work.zw.fill(0.0);
+    bw.fill(0.0);
     put_diagonal(work, bw);
     work.rotations = 0;
 }

@@ -96,8 +96,8 @@ fn close_sweep(n: usize, d: &mut [f64], zw: &mut [f64], bw: &mut [f64])
     ensures zw_after { dual_records zw.new ≡ replicate n (zero_of dual_algebra) }
 {
     add_all(n, zw, bw);
-    floats::copy(bw, d);
-    floats::clear(zw);
+    d.copy_from_slice(bw);
+    zw.fill(0.0);
 }
 
 // Sweep it_num, unless the threshold is zero.
