@@ -1,4 +1,5 @@
-// A case, read. Of a case that is cut all is read and told all the same, with 0 for each word that is not there: the program tells of it.
+// A case, read.
+// Kept: values beside an Err. Of a case that is cut all is read, with 0 for each word that is not there, since what the program prints of it may not change.
 ghost use Rattle.std.specs.Prelude.{◌≡◌, ◌≤◌, ◌<◌, length};
 ghost use Rattle.refusals.specs.Largest as largest;
 ghost use Rattle.replay_table.specs.Table.{most_words, most_answer};
