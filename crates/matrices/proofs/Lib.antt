@@ -12,6 +12,7 @@ pub mod Parity
 pub mod Slopes
 -- rows of floats are rows of records
 pub mod RowsOfRecords
+mod RowsSwapped
 -- for the code over a record: its inner loops, the starts of solve and inverse, and the two ways out of an entry
 pub mod Inner
 pub mod Starts

@@ -20,6 +20,9 @@ module _ (w n i : ℕ) (a : List Float) (b : Pivot) (found : b ≡ pivot_of real
   pub pivot_below : i < n → b.row < n
   pivot_below h = rw found (pivot_row reals n (real_parts w a) i h).1
 
+  pub pivot_later : i < n → (b.row ≡ i → ⊥) → i < b.row
+  pivot_later h ne = let least : i ≤ b.row = rw found (pivot_row reals n (real_parts w a) i h).0 in omega arith
+
   pub pivot_entry : (o : List ℕ) → i < n → length o ≡ n → b.row < length o
   pivot_entry o h e = omega (arith, pivot_below h)
 

@@ -31,11 +31,11 @@ apart k p q e c ne he hc x = go (dec_lt p q)
     go (no l) = let g : q < p = omega arith in omega (arith, mul-le-mul_right k g)
 
 -- l with the first c elements of the rows p and q exchanged is m
-record Exchanged {B : Type 0} (d : B) (k p q : ℕ) (l : List B) (c : ℕ) (m : List B) : Type 0 where
-  size : length m ≡ length l
-  upper : (e : ℕ) → e < c → get_or m (p * k + e) d ≡ get_or l (q * k + e) d
-  lower : (e : ℕ) → e < c → get_or m (q * k + e) d ≡ get_or l (p * k + e) d
-  rest : (j : ℕ) → ((e : ℕ) → e < c → j ≡ p * k + e → ⊥) → ((e : ℕ) → e < c → j ≡ q * k + e → ⊥) → get_or m j d ≡ get_or l j d
+pub record Exchanged {B : Type 0} (d : B) (k p q : ℕ) (l : List B) (c : ℕ) (m : List B) : Type 0 where
+  pub size : length m ≡ length l
+  pub upper : (e : ℕ) → e < c → get_or m (p * k + e) d ≡ get_or l (q * k + e) d
+  pub lower : (e : ℕ) → e < c → get_or m (q * k + e) d ≡ get_or l (p * k + e) d
+  pub rest : (j : ℕ) → ((e : ℕ) → e < c → j ≡ p * k + e → ⊥) → ((e : ℕ) → e < c → j ≡ q * k + e → ⊥) → get_or m j d ≡ get_or l j d
 
 module _ {B : Type 0} (d : B) (k p q : ℕ) (l : List B) (ne : p ≡ q → ⊥) (hp : p * k + k ≤ length l) (hq : q * k + k ≤ length l) where
   one_more_lem : (c : ℕ) (m : List B) → c < k → Exchanged d k p q l c m → Exchanged d k p q l (c + 1) (exchange d (p * k + c) (q * k + c) m)
@@ -80,7 +80,7 @@ module _ {B : Type 0} (d : B) (k p q : ℕ) (l : List B) (ne : p ≡ q → ⊥) 
           let s : e ≡ c = omega arith in
           rw s (get_or-set_same (set m X u) Y v d (omega (arith, x.size, length-set m X u)) ∙ old_v)
 
-  all_exchanged : Exchanged d k p q l k (exchange_rows d k p q l)
+  pub all_exchanged : Exchanged d k p q l k (exchange_rows d k p q l)
   unfolding exchange_rows
   all_exchanged =
       upto_reach (Exchanged d k p q l) (λ c. exchange d (p * k + c) (q * k + c)) 0 k (omega arith) (λ c m a b x. one_more_lem c m b x) l

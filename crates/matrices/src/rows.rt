@@ -40,17 +40,14 @@ fn find_pivot(w: usize, n: usize, a: &[f64], i: usize) -> Pivot
     b
 }
 
-// Rows p and q exchanged, at k floats a row.
+// Row p exchanged with a later one, q, at k floats a row.
 fn exchange_rows(k: usize, a: &mut [f64], p: usize, q: usize)
-    requires { (p * k + k ≤ length a.old) × (q * k + k ≤ length a.old) }
+    requires p_lt_q { p < q }
+    requires whole { q * k + k ≤ length a.old }
     ensures { a.new ≡ exchange_rows float.zero k p q a.old }
 {
-    let x = p * k;
-    let y = q * k;
-    // Kept: both rows lie in one slice; std has no `swap_with_slice` for the two parts of a `split_at_mut`, and says nothing of what two zipped `iter_mut` leave.
-    for c in 0..k {
-        a.swap(x + c, y + c);
-    }
+    let (above, below) = a.split_at_mut(q * k);
+    above[p * k..p * k + k].swap_with_slice(&mut below[..k]);
 }
 
 // Column i: its pivot's row exchanged with row i, whole and in the order, if they differ; nothing where no pivot exceeds zero.
