@@ -34,6 +34,7 @@ const MOST_FLOATS: usize = refusals::LARGEST_N * MOST_VALUES;
 const MOST_VALUES: usize = refusals::LARGEST_N * 2;
 
 // What the first line asks, and where the matrix starts.
+// Kept: a place, and not the text from there on, since `line_request` holds the requests of two texts to be equal.
 #[derive(Clone, Copy)]
 enum Request {
     Lu {
