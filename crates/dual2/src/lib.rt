@@ -1,5 +1,6 @@
 // Second order dual numbers for second derivatives: datatypes/dual2.rs. The rules of the record, its layout in flat floats
 // and its comparisons; what every record type has stands in the trait `Record`.
+// Kept: rules that go part by part stand in each record, as in its own source: no macro of a repository may write an `impl`.
 
 #![tactic(auto)]
 
@@ -180,7 +181,7 @@ impl Record for Dual2 {
     }
 }
 
-// Comparisons are only made based on the real part.
+// Kept: by hand, since comparisons are only made based on the real part.
 impl PartialEq for Dual2 {
     ghost eq = { on (λ x. x.re) eq };
 

@@ -1,5 +1,6 @@
 // Third order dual numbers for third derivatives: datatypes/dual3.rs. The rules of the record, its layout in flat floats
 // and its comparisons; what every record type has stands in the trait `Record`.
+// Kept: rules that go part by part stand in each record, as in its own source: no macro of a repository may write an `impl`.
 
 #![tactic(auto)]
 
@@ -191,7 +192,7 @@ impl Record for Dual3 {
 
 impl ThirdDerivative for Dual3 {}
 
-// Comparisons are only made based on the real part.
+// Kept: by hand, since comparisons are only made based on the real part.
 impl PartialEq for Dual3 {
     ghost eq = { on (λ x. x.re) eq };
 

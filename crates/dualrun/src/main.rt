@@ -1,5 +1,6 @@
 // Reads standard input and writes what `dualrun_text::run` makes of it. 65,536 bytes are enough for both (crates/dualrun_text/proofs/Whole.antt): a longer text
 // gives what its first 65,536 bytes give. A text that its first line decides is read no further (crates/dualrun_text/proofs/LineDecides.antt).
+// Kept: a byte is read into its place, and the text so far tested, so the place is a number.
 
 #![tactic(auto)]
 

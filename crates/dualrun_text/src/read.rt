@@ -1,4 +1,5 @@
 // Reading: the first line, and the words of the matrix.
+// Kept: the first line is read from a place on, so that a request can hold where its next number begins.
 ghost use Rattle.std.specs.Prelude.{◌≡◌, ◌≤◌, ◌<◌, true, false, length, MatchResult};
 ghost use Rattle.refusals.specs.declared.Refusal.TheVariants.{Unreadable};
 ghost use Rattle.dualrun_text.specs.Request.{longest_line, lu_line, eig_line, limit_line, request_of};

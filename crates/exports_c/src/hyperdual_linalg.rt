@@ -1,4 +1,5 @@
 // LU, solve, determinant and inverse of matrices of `HyperDual`: row by row, four floats a record in the order re, eps1, eps2, eps1eps2.
+// Kept: the parameters and the numbers that are answered are those of the C interface.
 ghost use Rattle.std.specs.Prelude.{◌≡◌};
 ghost use Rattle.hyperdual.specs.Rules.{hyper_dual_algebra, hyper_dual_layout};
 ghost use Rattle.matrices.specs.Entries.{lu_left, solve_left, inverse_left, determinant_left};

@@ -1,4 +1,5 @@
 // LU, solve, determinant, inverse and Jacobi of matrices of `Dual`: row by row, two floats a record, real part first.
+// Kept: the parameters and the numbers that are answered are those of the C interface.
 ghost use Rattle.std.specs.Prelude.{◌≡◌};
 ghost use Rattle.dual.specs.Rules.{dual_algebra, dual_layout};
 ghost use Rattle.matrices.specs.Entries.{lu_left, solve_left, inverse_left, determinant_left};

@@ -1,4 +1,5 @@
 // Matrix Market texts: matrices of `Dual` and of `HyperDual` from bytes and back.
+// Kept: the parameters and the numbers that are answered are those of the C interface.
 ghost use Rattle.std.specs.Prelude.{◌≡◌};
 ghost use Rattle.market.specs.Head.{size_of};
 ghost use Rattle.market.specs.Read.{read_left};

@@ -1,4 +1,5 @@
 // The operators of two records, each by a function of its own: what `evindrast_record` leaves for its number and no floats, without the table.
+// Kept: the parameters and the numbers that are answered are those of the C interface.
 ghost use Rattle.std.specs.Prelude.{◌≡◌, [], pos};
 ghost use Rattle.calls.specs.Called.{binary_number};
 ghost use Rattle.calls.specs.declared.Binary.TheVariants.{Add, Sub, Mul, Div};

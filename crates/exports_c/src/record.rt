@@ -1,4 +1,5 @@
 // The operations, requests, sums and products of the five record types. A kind is a number: 1 `Dual`, 2 `Dual2`, 3 `Dual3`, 4 `HyperDual`, 5 `HyperHyperDual`.
+// Kept: the parameters and the numbers that are answered are those of the C interface.
 ghost use Rattle.std.specs.Prelude.{◌≡◌};
 ghost use Rattle.exports.specs.ByKind.{record_left, sum_left, product_left};
 

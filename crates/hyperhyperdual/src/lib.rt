@@ -1,5 +1,6 @@
 // Hyper-hyper-dual numbers for third partial derivatives: datatypes/hyperhyperdual.rs. The rules of the record, its layout in flat floats
 // and its comparisons; what every record type has stands in the trait `Record`.
+// Kept: rules that go part by part stand in each record, as in its own source: no macro of a repository may write an `impl`.
 
 #![tactic(auto)]
 
@@ -291,7 +292,7 @@ impl Record for HyperHyperDual {
 
 impl ThirdDerivative for HyperHyperDual {}
 
-// Comparisons are only made based on the real part.
+// Kept: by hand, since comparisons are only made based on the real part.
 impl PartialEq for HyperHyperDual {
     ghost eq = { on (λ x. x.re) eq };
 

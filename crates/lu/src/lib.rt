@@ -1,5 +1,6 @@
 // LU, solve, determinant and inverse of matrices of records in lent floats: linalg.rs. Matrices lie row by row, the record at row r and column c at
 // (r * n + c) * `R::width()`, real part first. n is 0 to 32. A call that is refused by its number writes nothing, but for 6 (see `lu`).
+// Kept: n, the factors and the order come apart, as they are lent to the exports: a struct of them would be made for one call and taken apart in it.
 
 #![tactic(auto)]
 

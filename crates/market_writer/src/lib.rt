@@ -1,4 +1,5 @@
 // The writer of Matrix Market texts: `array integer general`, without comments or leading zeros, into lent bytes.
+// Kept: `zeros` fills from a place on, since the text before it stays.
 
 #![tactic(auto)]
 

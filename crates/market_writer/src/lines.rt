@@ -1,4 +1,5 @@
 // Writing, line by line.
+// Kept: the loops run over columns and rows, which the format counts so; `entry` reads the record there.
 ghost use Rattle.std.specs.Prelude.{◌≡◌, ◌*◌};
 ghost use Rattle.std.specs.Float.Ieee.{lt};
 ghost use Rattle.real.specs.Operations.{zero};

@@ -1,5 +1,6 @@
 // What LU, solve, determinant and inverse share whatever the record: code that knows only a record's width in floats and the real parts.
 // Inner: for the crates that hold the entries. Its functions have a `requires`, which those crates show.
+// Kept: `number` and `lu_number` give the numbers that leave the library.
 
 #![tactic(auto)]
 

@@ -1,4 +1,5 @@
 // The refusals of the four entries, in document 01's order. A record has w floats.
+// Kept: the limits of n and w stand in each `requires`: a type of a number within a limit would be made for one call, and hide the test of n that comes first.
 ghost use Rattle.std.specs.Prelude.{◌≡◌, ◌≤◌, length};
 ghost use Rattle.refusals.specs.Largest as largest;
 ghost use Rattle.refusals.specs.Refused.{answer_number};

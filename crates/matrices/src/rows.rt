@@ -1,4 +1,5 @@
 // The rows of a matrix in flat floats: the choice of a pivot, by real parts alone, and its row brought up.
+// Kept: the sizes stand beside the floats, and `Square` in the contracts: floats are lent to be written by the crates above too, so a type over them would be made anew at each call.
 ghost use Rattle.std.specs.Prelude.{◌≡◌, ◌+◌, ◌*◌, ◌<◌, ◌≤◌, length};
 ghost use Rattle.real.specs.Operations as float;
 ghost use Rattle.algebra.specs.Algebra.{reals};

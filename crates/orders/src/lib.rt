@@ -1,5 +1,6 @@
 // Whether a lent order is a permutation of 0, 1, .., n - 1, and its parity: one walk over it, which marks in a word what has come.
 // Inner: for the crates that test an order. Its functions have a `requires`, which those crates show.
+// Kept: the limit of n stands in the `requires`: n is tested where it is lent, and a type of it would be taken apart at once.
 
 #![tactic(auto)]
 

@@ -1,4 +1,5 @@
 // What a record makes of a plan, over any record.
+// Kept: a sine and a cosine are the outside floats of one function, in the order of the tables.
 ghost use Rattle.std.specs.Prelude.{◌≡◌};
 ghost use Rattle.algebra.specs.Outcome.{outcome};
 ghost use Rattle.derivatives.specs.Apply.{run_plan, small_j0, small_j2, bessel_j1, bessel_j2, cubic_j1, sph_j1_series_of};

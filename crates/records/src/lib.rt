@@ -1,6 +1,7 @@
 // What every record type is and does. `Record` is a trait over the operations of a record (its `Algebra`) and its layout in flat floats; each of the five record
 // crates has one impl, the rules of the record's own file. What the Rust writes by macros for every type stands here once: the operators of macros.rs, by
 // name, and the functions of impl_derivatives.rs, each by its series or its plan.
+// Kept: methods that differ in a constant or an operator (`is_zero` and `is_one`, `add_float` and `sub_float`) are two of the Rust's; a sine and a cosine come together as its tables have them.
 
 #![tactic(auto)]
 

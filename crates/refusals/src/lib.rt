@@ -1,5 +1,6 @@
 // The refusals of the documents, by name and by number, and the limits that they are given at. specs/ has the same by name for contracts and definitions: a
 // proof that meets both holds them to each other.
+// Kept: `number` and `answer_number` give the numbers that leave the library.
 
 #![tactic(auto)]
 

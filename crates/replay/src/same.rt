@@ -1,4 +1,5 @@
 // What a call leaves, compared with the words of a file.
+// Kept: no `==` compares words with what has words.
 ghost use Rattle.std.specs.Prelude.{◌≡◌, ℕ, length, replicate};
 ghost use Rattle.std.specs.Float.{binary64};
 ghost use Rattle.std.specs.Float.Ieee.{to_bits};

@@ -1,4 +1,5 @@
 // A word of a file of answers, byte by byte.
+// Kept: digits are a count that the caller compares, and `Seen` has four states of a reader.
 ghost use Rattle.std.specs.Prelude.{◌≡◌, ◌<◌};
 ghost use Rattle.replay.specs.Reading.{joined, word_after, seen_after};
 

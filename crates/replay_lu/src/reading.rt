@@ -1,4 +1,5 @@
 // What the files have of matrices, read into lent buffers. All that is asked for is read, also where a part before it is cut.
+// Kept: n within the limit is what `head` answers, and is asked here alone: a type of it would be taken apart at once.
 ghost use Rattle.std.specs.Prelude.{◌*◌, ◌≡◌, ◌≤◌, IfOk, length};
 ghost use Rattle.refusals.specs.Largest as largest;
 ghost use Rattle.replay_matrices.specs.Room.{most_floats, most_in_row};

@@ -1,4 +1,5 @@
 // The entries over the record of a width.
+// Kept: two records by an enum, matched where the generic entry is chosen.
 ghost use Rattle.std.specs.Prelude.{◌≡◌};
 ghost use Rattle.algebra.specs.Outcome.{outcome};
 ghost use Rattle.market.specs.Answers.{answered};

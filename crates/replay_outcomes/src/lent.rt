@@ -1,4 +1,5 @@
 // What the program has room for, cut at a case's lengths, and a case's numbers in the exports' types.
+// Kept: `number` is a number of the C interface, as the file has it.
 
 // The floats of a matrix of 34 by 34 records of four, and one more.
 pub const MOST_FLOATS: usize = 4625;

@@ -1,4 +1,5 @@
 // What a record type answers to a case, by its function's number (oracle/README.md), and whether it is what the file has.
+// Kept: the lent rooms of one case, run, left and out, are each read by other lines; a struct of them would be made and taken apart in each function.
 ghost use Rattle.std.specs.Prelude.{◌≡◌, ◌%◌, ◌&&◌, ◌<◌, length};
 ghost use Rattle.refusals.specs.Refused.{answer_number};
 ghost use Rattle.replay_table.specs.Table.{same_answer, exponent_of};

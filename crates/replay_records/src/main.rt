@@ -1,4 +1,5 @@
 // Replays the recorded answers of the five record types, records-KIND.txt and runs-KIND.txt, through the calls that the exports make and through the records' own methods.
+// Kept: the lent rooms of one case, run, left and out, come apart as `answers` takes them.
 
 #![tactic(auto)]
 

@@ -1,4 +1,5 @@
 // Reading: the number, the space and the bits.
+// Kept: a text with a place, since a number ends at a place, and what stands there is tested.
 ghost use Rattle.std.specs.Prelude.{◌≡◌, ◌+◌, ◌^◌, ◌≤◌, ◌<◌};
 ghost use Rattle.rootsteps.specs.Request.{number_digits, ends_at, bits_from, request_of};
 ghost use Rattle.rootsteps.specs.Request.{asked as Request·asked};

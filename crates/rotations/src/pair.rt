@@ -1,4 +1,5 @@
 // One entry above the diagonal, by what is chosen for it.
+// Kept: p and q are the row and the column of one entry, by which both are read apart.
 ghost use Rattle.std.specs.Prelude.{◌≡◌, ◌+◌, ◌<◌, ◌≤◌};
 ghost use Rattle.dual.specs.Rules.{dual_algebra, dual_records};
 ghost use Rattle.matrices.specs.Matrix.{cell};

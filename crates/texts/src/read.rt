@@ -1,4 +1,5 @@
 // Reading: bytes and digits at a place.
+// Kept: a text with a place, since past its end a text has the byte 0, which no slice has.
 ghost use Rattle.std.specs.Prelude.{◌≡◌, ◌≤◌, ◌<◌, ◌^◌};
 ghost use Rattle.texts.specs.Digits.{byte_at, starts_with, digit_of, scan_of};
 ghost use Rattle.texts.specs.Numbers.{number_from};
