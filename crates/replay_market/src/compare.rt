@@ -87,7 +87,12 @@ pub(crate) fn same_read(
 
 // Whether the writer answers what was recorded, and the lent bytes are the recorded text with zeros after it, or as they were where a refusal is recorded.
 #[tactic(auto, unfolding(crate::specs::Cases::same_write))]
-pub(crate) fn same_write(wanted: Recorded, text: &[u8], answer: Result<usize, Refusal>, bytes: &[u8]) -> bool
+pub(crate) fn same_write(
+    wanted: Recorded,
+    text: &[u8],
+    answer: Result<usize, Refusal>,
+    bytes: &[u8],
+) -> bool
     ensures { result ≡ same_write wanted text.now (outcome answer) bytes.now }
 {
     if !same_answer(wanted, answer) {
