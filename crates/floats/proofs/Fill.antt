@@ -37,7 +37,3 @@ module _ {B : Type 0} (d : B) (g : ℕ → B) where
 
     pub filling_all : length l ≤ i → l ≡ tabulate g m 0
     filling_all h = filled_all d g l (tabulate g m 0) i h (so_far.long ∙ sym (tabulate_length g m 0)) so_far.filled (λ k lt. tabulate_at g m 0 k d (omega (arith, so_far.long)) ∙ ap g (omega arith))
-
-    -- another list of that length that has the same
-    pub filling_list : (l' : List B) → length l' ≡ m → ((k : ℕ) → k < m → get_or l' k d ≡ g k) → length l ≤ i → l ≡ l'
-    filling_list l' e w h = filled_all d g l l' i h (so_far.long ∙ sym e) so_far.filled (λ k lt. w k (omega (arith, so_far.long)))

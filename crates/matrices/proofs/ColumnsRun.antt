@@ -3,15 +3,13 @@ use Prim.Native.Nat.{ℕ, ◌+◌, ◌*◌, ◌≤◌, ◌<◌}
 use mathlib.Core.Path.{◌≡◌, refl, ap, sym, ◌∙◌}
 use mathlib.Core.List.{List}
 use native.Mathlib.Omega.{arith}
-use lib.ListN.{length, replicate}
+use lib.ListN.{length}
 use lib.Ieee.{Float}
 use Rattle.std.specs.Prelude.{Result, Ok, Err}
-use Rattle.refusals.specs.Number as refusal
-use Rattle.real.specs.Operations as float
 use Rattle.algebra.specs.Algebra.{Algebra}
 use Rattle.algebra.specs.Flat.{Layout, decode}
 use Rattle.algebra.specs.Loop.{upto}
-use Rattle.algebra.specs.Outcome.{value, refused}
+use Rattle.algebra.specs.Outcome.{value}
 use Rattle.algebra.proofs.Flat.{tabulate_length}
 use Rattle.algebra.proofs.Loop.{upto_turn, upto_end}
 use Rattle.algebra.proofs.Laws.{Laws}
@@ -20,7 +18,7 @@ use Rattle.matrices.specs.Lu.{going, reduce, reduce_run, column, count_up, lu_of
 use Rattle.matrices.specs.Matrix.{Square}
 use Rattle.matrices.specs.RunAfter.{run_after, swaps_of}
 use Rattle.matrices.specs.declared.NoPivot.{NoPivot}
-use Rattle.matrices.proofs.Answers.{finish_done, finish_singular}
+use Rattle.matrices.proofs.Answers.{finish_done}
 use Rattle.matrices.proofs.Lu.{run_stops}
 use Rattle.matrices.proofs.RowsOfRecords.{column_by}
 
@@ -40,9 +38,6 @@ module _ {R : Type 0} {A : Algebra R} {L : Layout R} (Q : Laws A L) where
 
     pub column_goes : (a'' : List Float) (t : ℕ) → r ≡ Ok t → decode L a'' ≡ reduce A n i (decode L a') → column A n i (going (decode L a) p swaps) ≡ going (decode L a'') p' t
     column_goes a'' t g d = found ∙ ap (λ (s : Result ℕ NoPivot). reduce_run A n i (run_after s (decode L a') p')) g ∙ ap (λ (m : List R). going m p' t) (sym d)
-
-  pub few_swaps : (r : Result ℕ NoPivot) (t k : ℕ) → r ≡ Ok t → swaps_of r ≤ k → t ≤ k
-  few_swaps r t k g h = omega (arith, ap swaps_of g)
 
   -- ---- the columns: before column i, what is left to run gives the whole
 
@@ -82,9 +77,6 @@ module _ {R : Type 0} {A : Algebra R} {L : Layout R} (Q : Laws A L) where
 
   -- ---- LU whole: a copy, the order counted up, the columns, and both buffers cleared where it is singular
 
-  pub counted_up : (n : ℕ) (o q : List ℕ) → q ≡ count_up (length o) → length o ≡ n → q ≡ count_up n
-  counted_up n o q e h = e ∙ ap count_up h
-
   module _ (n : ℕ) (a f l m : List Float) (o q p : List ℕ) (r : Result ℕ NoPivot) (square : Square L.width n f) (long : length o ≡ n)
       (copied : l ≡ a) (ran : lu_of A n (decode L l) ≡ run_after r (decode L m) p) (copy-size : length l ≡ length f) (run-size : length m ≡ length l) (count-size : length q ≡ length o) (order-size : length p ≡ length q) where
     whole : lu_of A n (decode L a) ≡ run_after r (decode L m) p
@@ -95,9 +87,3 @@ module _ {R : Type 0} {A : Algebra R} {L : Layout R} (Q : Laws A L) where
 
     pub factor_done : (swaps : ℕ) → r ≡ Ok swaps → lu_answered (value swaps) 0 m p ≡ lu_finish A L n (lu_of A n (decode L a))
     factor_done swaps g = finish_done A L Q.lawful n (lu_of A n (decode L a)) m p swaps (whole ∙ ap (λ (s : Result ℕ NoPivot). run_after s (decode L m) p) g) full
-
-    pub factor_singular : (c : NoPivot) (g : List Float) (z : List ℕ) → r ≡ Err c → g ≡ replicate (length m) float.zero → z ≡ replicate (length p) 0
-        → lu_answered (refused refusal.singular) c.column g z ≡ lu_finish A L n (lu_of A n (decode L a))
-    factor_singular c g z e eg ez =
-        finish_singular A L Q.lawful n (lu_of A n (decode L a)) g z c.column (whole ∙ ap (λ (s : Result ℕ NoPivot). run_after s (decode L m) p) e)
-        (eg ∙ ap (λ (k : ℕ). replicate k float.zero) full) (ez ∙ ap (λ (k : ℕ). replicate k 0) (order-size ∙ count-size ∙ long))

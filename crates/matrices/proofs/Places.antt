@@ -69,13 +69,6 @@ pub record Few (w n : ℕ) : Type 0 where
 pub few : (w n : ℕ) → n ≤ largest.n → w ≤ largest.width → Few w n
 few w n h k = record { square = mul-le-mul h h; row = mul-le-mul h k; all = mul-le-mul (mul-le-mul h h) k }
 
--- nor is the place of row i or of column i, by the floats of a row
-pub column_places : (w n i : ℕ) (l : List Float) → Square w n l → i < n → (i * (n * w) ≤ largest.n * (largest.n * largest.width)) × ((i * w ≤ largest.n * largest.width) × (n * w ≤ largest.n * largest.width))
-column_places w n i l s h =
-    let z = s.small in
-    let b : i ≤ largest.n = omega arith in
-    (mul-le-mul b (mul-le-mul z s.narrow), (mul-le-mul b s.narrow, mul-le-mul z s.narrow))
-
 -- the real part at row r and column c, in the floats
 pub real_cell : (w n : ℕ) (l : List Float) (r c : ℕ) → Square w n l → r < n → c < n
     → (r * (n * w) + c * w < length l) × (cell reals n (real_parts w l) r c ≡ get_or l (r * (n * w) + c * w) float.zero)
@@ -104,10 +97,7 @@ strided_whole w n l e = record { some = omega arith; inside = λ i h. let p : i 
 pub strided_column : (w n j : ℕ) (l : List Float) → Square w n l → j < n → Strided w n n j l
 strided_column w n j l s h = record { some = omega arith; inside = λ i b. (inside w n i j l s b h).there }
 
--- the same in floats of the same length: an element's place, all of a vector
-pub strided_place : (w n stride base i : ℕ) (l l' : List Float) → Strided w n stride base l → length l' ≡ length l → i < n → (i * stride + base) * w + w ≤ length l'
-strided_place w n stride base i l l' s e h = omega (arith, s.inside i h, e)
-
+-- all of a vector, in floats of the same length
 pub whole_kept : (w n : ℕ) (l l' : List Float) → length l ≡ n * w → length l' ≡ length l → Strided w n 1 0 l'
 whole_kept w n l l' e f = strided_whole w n l' (f ∙ e)
 

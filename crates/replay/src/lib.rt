@@ -9,7 +9,7 @@ pub mod same;
 pub mod tally;
 mod words;
 
-ghost use Rattle.std.specs.Prelude.{◌≤◌, length};
+ghost use Rattle.std.specs.Prelude.{◌≤◌, length, IfOk};
 
 use std::io::Read;
 use words::Seen;
@@ -29,8 +29,6 @@ pub struct Reader<R> {
     buffer: [u8; BUFFER],
     at: usize,
     end: usize,
-    ghost given: { at ≤ end },
-    ghost within: { end ≤ length buffer },
 }
 
 impl<R: Read> Reader<R> {
@@ -49,7 +47,7 @@ impl<R: Read> Reader<R> {
             self.at = 0;
             self.end = self.source.read(&mut self.buffer).unwrap_or(0);
         }
-        let byte = *self.buffer[..self.end].get(self.at)?;
+        let byte = *self.buffer.get(..self.end)?.get(self.at)?;
         self.at += 1;
         Some(byte)
     }
@@ -91,7 +89,9 @@ impl<R: Read> Reader<R> {
     }
 
     // The file's next bytes, so many, in lent ones.
-    pub fn read_text<'a>(&mut self, count: u64, bytes: &'a mut [u8]) -> Result<&'a [u8], Cut> {
+    pub fn read_text<'a>(&mut self, count: u64, bytes: &'a mut [u8]) -> Result<&'a [u8], Cut>
+        ensures { IfOk result (λ text. length text.now ≤ length bytes.old) }
+    {
         let count = count as usize;
         for byte in bytes.iter_mut().take(count) {
             *byte = self.next_byte().ok_or(Cut)?;
