@@ -29,7 +29,9 @@ fn read_text<'a>(
     reader: &mut Reader<File>,
     length: u64,
     bytes: &'a mut [u8],
-) -> Result<&'a [u8], Cut> {
+) -> Result<&'a [u8], Cut>
+    ensures { IfOk result (λ text. length text.now ≤ length bytes.old) }
+{
     let mut last = [0u8; 1];
     let text = reader.read_text(length, bytes);
     reader.read_text(1, &mut last)?;
