@@ -11,7 +11,7 @@ pub number_only : Only 0 number.Kinds.ps number.Kinds.r number.Reads.Pre number.
 number_only κs a x y v w h p q = (p ∙ sym q, refl)
 
 pub width_only : Only 0 own.width.Kinds.ps own.width.Kinds.r own.width.Reads.Pre own.width.Reads.Post
-width_only κs a x y v w h p q = (p.is ∙ sym q.is, refl)
+width_only κs a x y v w h p q = (p.0 ∙ sym q.0, refl)
 
 pub nderiv_only : Only 0 own.nderiv.Kinds.ps own.nderiv.Kinds.r own.nderiv.Reads.Pre own.nderiv.Reads.Post
 nderiv_only κs a x y v w h p q = (p ∙ sym q, refl)
