@@ -3,4 +3,4 @@ mod Fitting
 pub mod Lent
 mod Entries
 -- this crate's promises leave one outcome each
-mod OneAnswer
+pub mod OneAnswer

@@ -14,7 +14,7 @@ use Rattle.refusals.proofs.Numbers.{number_one, number_positive}
 use Rattle.calls.proofs.run as own
 
 -- an answer of nothing is known by its number
-answer_one : (x y : Result Unit Refusal) → answer_number x ≡ answer_number y → x ≡ y
+pub answer_one : (x y : Result Unit Refusal) → answer_number x ≡ answer_number y → x ≡ y
 answer_one (Ok x) (Ok y) e = refl
 answer_one (Ok x) (Err m) e = absurd (omega (arith, number_positive m))
 answer_one (Err m) (Ok y) e = absurd (omega (arith, number_positive m))

@@ -8,6 +8,8 @@ mod over;
 mod reading;
 mod writing;
 
+ghost use Rattle.std.specs.Prelude.{◌≤◌, length, IfOk};
+
 use replay::{Cut, Reader, tally};
 use std::fs::File;
 
@@ -27,11 +29,13 @@ fn read_head(reader: &mut Reader<File>) -> Result<[u64; 6], Cut> {
 // The text of a case, so long, without the newline that ends it.
 fn read_text<'a>(
     reader: &mut Reader<File>,
-    length: u64,
+    count: u64,
     bytes: &'a mut [u8],
-) -> Result<&'a [u8], Cut> {
+) -> Result<&'a [u8], Cut>
+    ensures { IfOk result (λ text. length text.now ≤ length bytes.old) }
+{
     let mut last = [0u8; 1];
-    let text = reader.read_text(length, bytes);
+    let text = reader.read_text(count, bytes);
     reader.read_text(1, &mut last)?;
     if last == [b'\n'] { text } else { Err(Cut) }
 }
