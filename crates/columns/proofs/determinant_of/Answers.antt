@@ -11,9 +11,6 @@ loop-i-init g c = rw (c.none-marks.ensures, c.one-x.ensures) (walking g.met.R.Re
 pub returns-then-k-n : goal.returns-then-k-n
 returns-then-k-n g c = search (rules, walk_stop g.met.R.Record.laws)
 
-pub mark-requires : goal.mark-requires
-mark-requires g c = search (rules, walk_bit g.met.R.Record.laws)
-
 -- a record of the diagonal
 pub read-requires : goal.read-requires
 read-requires g c = search (rules, square_held g.met.R.Record.laws)

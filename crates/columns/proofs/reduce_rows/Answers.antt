@@ -8,9 +8,6 @@ use Rattle.columns.proofs.reduce_rows.Goals as goal
 pub loop-j-init : goal.loop-j-init
 loop-j-init g c = reducing g.met.R.Record.laws _ _ _
 
-pub reduce_row-requires : goal.reduce_row-requires
-reduce_row-requires g c = search (rules, row_place_kept)
-
 pub loop-j-preserved : goal.loop-j-preserved
 loop-j-preserved g c = search (rules, run_turn g.met.R.Record.laws)
 

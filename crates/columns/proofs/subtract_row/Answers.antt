@@ -4,9 +4,6 @@ use Rattle.matrices.proofs.Held.{row_held}
 use Rattle.matrices.proofs.RowsReduced.{subtract_start, subtract_turn, subtract_end}
 use Rattle.columns.proofs.subtract_row.Goals as goal
 
-pub loop-k-init : goal.loop-k-init
-loop-k-init g c = search (rules, subtract_start g.met.R.Record.laws)
-
 -- both records lie in their rows
 pub subtract_record-requires : goal.subtract_record-requires
 subtract_record-requires g c = search (rules, row_held g.met.R.Record.laws)

@@ -14,21 +14,6 @@ returns-in_err-refuse c =
     let p = err_from_is_err_and c.from_residual.result c.from_residual.ensures.1 in
     jacobi_unfit _ _ _ _ _ _ c.refuse.ensures _ _ c.in_err-refuse.was (p.1 ∙ ap Err p.2)
 
--- a call that is not refused may run: n was found to be small
-pub run_within-sweeps-requires : goal.run_within-sweeps-requires
-run_within-sweeps-requires c =
-    let s = c.args in
-    let p = jacobi_allowed _ _ _ s.values.now s.vectors.now _ c.refuse.ensures _ c.in_ok-refuse.was small_n c.if-n-le-SMALL_N.true (omega arith) in
-    record { square = p.square; vectors_square = p.vectors_square; values_len = p.values_len; matrix_fits = p.matrix_fits; row_fits = p.row_fits; within = p.within }
-
--- and else is at most the largest
-pub run_within-sweeps-requires-else-n-le-SMALL_N : goal.run_within-sweeps-requires-else-n-le-SMALL_N
-run_within-sweeps-requires-else-n-le-SMALL_N c =
-    let s = c.args in
-    let n : s.n ≤ largest.n = jacobi_small _ _ _ s.values.now s.vectors.now _ c.refuse.ensures _ c.in_ok-refuse.was in
-    let p = jacobi_allowed _ _ _ s.values.now s.vectors.now _ c.refuse.ensures _ c.in_ok-refuse.was largest.n n (omega arith) in
-    record { square = p.square; vectors_square = p.vectors_square; values_len = p.values_len; matrix_fits = p.matrix_fits; row_fits = p.row_fits; within = p.within }
-
 pub returns-then-n-le-SMALL_N : goal.returns-then-n-le-SMALL_N
 returns-then-n-le-SMALL_N c =
     let r = c.run_within-sweeps in

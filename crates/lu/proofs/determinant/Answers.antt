@@ -9,10 +9,3 @@ pub returns-in_err-determinant : goal.returns-in_err-determinant
 returns-in_err-determinant g c =
     let p = err_from_is_err_and c.from_residual.result c.from_residual.ensures.1 in
     determinant_unfit g.met.R.Record.laws _ _ _ c.width.ensures _ c.args.order.now c.determinant.ensures _ _ _ c.in_err-determinant.was (p.1 ∙ ap Err p.2)
-
--- the lengths are the wanted ones
-pub determinant_of-requires : goal.determinant_of-requires
-determinant_of-requires g c =
-    let s = c.args in
-    let allowed = determinant_allowed g.met.R.Record.laws _ _ _ c.width.ensures _ s.order.now c.determinant.ensures _ c.in_ok-determinant.was in
-    record { square = allowed.0; order_len = allowed.1 }

@@ -10,12 +10,5 @@ returns-in_err-lu g c =
     let p = err_from_is_err_and c.from_residual.result c.from_residual.ensures.1 in
     lu_unfit g.met.R.Record.laws _ _ _ c.width.ensures _ c.args.factors.now c.args.order.now c.lu.ensures _ _ c.in_err-lu.was (p.1 ∙ ap Err p.2)
 
--- the lengths are the wanted ones
-pub factor-requires : goal.factor-requires
-factor-requires g c =
-    let s = c.args in
-    let allowed = lu_allowed g.met.R.Record.laws _ _ _ c.width.ensures _ s.factors.now s.order.now c.lu.ensures _ c.in_ok-lu.was in
-    record { square = allowed.0; square_2 = allowed.1.0; order_len = allowed.1.1 }
-
 pub returns : goal.returns
 returns g c = lu_answers g.met.R.Record.laws _ _ _ c.width.ensures _ c.args.factors.now c.args.order.now c.lu.ensures _ _ c.in_ok-lu.was c.factor.ensures

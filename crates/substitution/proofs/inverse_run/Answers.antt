@@ -9,12 +9,6 @@ use Rattle.substitution.proofs.inverse_run.Goals as goal
 pub loop-j-init : goal.loop-j-init
 loop-j-init g c = search (rules, inverse_start g.met.R.Record.laws)
 
--- column j is a vector in the floats
-pub substitute-requires : goal.substitute-requires
-substitute-requires g c =
-    let sq : Square g.R.Record.layout.width c.args.n c.loop-j.x = search rules in
-    record { strided = strided_column _ _ _ _ sq c.loop-j-test.true }
-
 pub loop-j-preserved : goal.loop-j-preserved
 loop-j-preserved g c = search (rules, run_turn g.met.R.Record.laws)
 

@@ -6,9 +6,6 @@ use Rattle.matrices.proofs.Held.{square_held, strided_held}
 use Rattle.matrices.proofs.Substitution.{lessening, less_turn, less_end}
 use Rattle.substitution.proofs.less_row.Goals as goal
 
-pub loop-k-init : goal.loop-k-init
-loop-k-init g c = lessening g.met.R.Record.laws _ _ _ _ _ _ _ _ _
-
 pub loop-k-preserved : goal.loop-k-preserved
 loop-k-preserved g c = search (rules, less_turn g.met.R.Record.laws)
 

@@ -9,10 +9,6 @@ use Rattle.substitution.proofs.run_back.Goals as goal
 pub loop-i-init : goal.loop-i-init
 loop-i-init g c = back_start g.met.R.Record.laws _ _ _ _ _
 
--- the rows from the last back are rows
-pub back_row-requires : goal.back_row-requires
-back_row-requires g c = search (rules, row_place, strided_keep)
-
 pub loop-i-preserved : goal.loop-i-preserved
 loop-i-preserved g c = search (rules, back_turn g.met.R.Record.laws)
 

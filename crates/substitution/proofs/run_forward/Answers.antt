@@ -8,9 +8,6 @@ use Rattle.substitution.proofs.run_forward.Goals as goal
 pub loop-i-init : goal.loop-i-init
 loop-i-init g c = forwarding g.met.R.Record.laws _ _ _ _ _
 
-pub forward_row-requires : goal.forward_row-requires
-forward_row-requires g c = search (rules, row_place, strided_keep)
-
 pub loop-i-preserved : goal.loop-i-preserved
 loop-i-preserved g c = search (rules, run_turn g.met.R.Record.laws)
 

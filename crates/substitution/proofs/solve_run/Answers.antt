@@ -4,8 +4,5 @@ use Rattle.matrices.proofs.Places.{whole_kept}
 use Rattle.matrices.proofs.StartsWritten.{solved}
 use Rattle.substitution.proofs.solve_run.Goals as goal
 
-pub substitute-requires : goal.substitute-requires
-substitute-requires g c = search (rules, whole_kept)
-
 pub returns : goal.returns
 returns g c = search (rules, solved g.met.R.Record.laws)

@@ -6,9 +6,6 @@ use Rattle.matrices.proofs.Held.{vector_held}
 use Rattle.matrices.proofs.StartsWritten.{starting, start_turn, start_end}
 use Rattle.substitution.proofs.solve_starts.Goals as goal
 
-pub loop-k-init : goal.loop-k-init
-loop-k-init g c = starting g.met.R.Record.laws _ _
-
 -- an entry of the order is below n, and so is its record in b
 pub read-requires : goal.read-requires
 read-requires g c =

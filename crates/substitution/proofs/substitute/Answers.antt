@@ -4,8 +4,5 @@ use Rattle.matrices.proofs.Places.{strided_keep}
 use Rattle.matrices.proofs.Substitution.{substituted}
 use Rattle.substitution.proofs.substitute.Goals as goal
 
-pub run_back-requires : goal.run_back-requires
-run_back-requires g c = search (rules, strided_keep)
-
 pub returns : goal.returns
 returns g c = search (rules, substituted g.met.R.Record.laws)

@@ -4,21 +4,6 @@ use Rattle.derivatives.specs.Series.{powi_series}
 use Rattle.derivatives.proofs.Falling.{one_less_fits, two_less_fits, second_fits, third_fits, exp_back, one_less_back, two_less_back, second_back, third_back}
 use Rattle.derivatives.proofs.Series.powi.Goals as goal
 
-pub overflow_sub-f2 : goal.overflow_sub-f2
-overflow_sub-f2 c = search (rules, exp_back, one_less_fits)
-
-pub overflow_mul-f2 : goal.overflow_mul-f2
-overflow_mul-f2 c = search (rules, exp_back, one_less_back, second_fits)
-
-pub overflow_sub-f3 : goal.overflow_sub-f3
-overflow_sub-f3 c = search (rules, exp_back, one_less_fits)
-
-pub overflow_mul-f3 : goal.overflow_mul-f3
-overflow_mul-f3 c = search (rules, exp_back, one_less_back, second_fits)
-
-pub overflow_sub-f3-2 : goal.overflow_sub-f3-2
-overflow_sub-f3-2 c = search (rules, exp_back, two_less_fits)
-
 -- exp (exp - 1) (exp - 2) fits, once its factors are read back
 pub overflow_mul-f3-2 : goal.overflow_mul-f3-2
 overflow_mul-f3-2 c =

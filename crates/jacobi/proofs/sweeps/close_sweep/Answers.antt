@@ -4,8 +4,5 @@ use Rattle.dual.specs.Laws.{dual_laws}
 use Rattle.jacobi.proofs.Scratch.{blank, copied}
 use Rattle.jacobi.proofs.sweeps.close_sweep.Goals as goal
 
-pub returns-clause-d_after : goal.returns-clause-d_after
-returns-clause-d_after c = search (rules, copied dual_laws)
-
 pub returns-clause-zw_after : goal.returns-clause-zw_after
 returns-clause-zw_after c = search (rules, blank dual_laws)

@@ -6,9 +6,6 @@ use Rattle.matrices.proofs.rows.find_pivot.Goals as goal
 pub loop-k-init : goal.loop-k-init
 loop-k-init c = search (rules, seeking)
 
-pub bounds-a-k : goal.bounds-a-k
-bounds-a-k c = search (rules, seek_inside)
-
 pub loop-k-preserved : goal.loop-k-preserved
 loop-k-preserved c = search (rules, seek_turn)
 

@@ -6,9 +6,6 @@ use Rattle.records.proofs.Record.sum.Goals as goal
 pub returns-then-floats-width-ne0 : goal.returns-then-floats-width-ne0
 returns-then-floats-width-ne0 g c = search (rules, sum_refused g.met.Self.Record.laws)
 
-pub loop-p-init : goal.loop-p-init
-loop-p-init g c = search (rules, joining_from g.met.Self.Record.laws)
-
 pub read-requires : goal.read-requires
 read-requires g c = search (rules, run_place g.met.Self.Record.laws)
 

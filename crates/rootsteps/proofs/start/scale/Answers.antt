@@ -3,12 +3,6 @@ use native.Mathlib.Omega.{arith}
 use Rattle.rootsteps.proofs.Scaling.{zeros_few, shift_there, scaled_is, exponent_is}
 use Rattle.rootsteps.proofs.start.scale.Goals as goal
 
-pub overflow_cast-digits : goal.overflow_cast-digits
-overflow_cast-digits c = omega (arith, zeros_few _ _ c.requires)
-
-pub overflow_sub-digits : goal.overflow_sub-digits
-overflow_sub-digits c = omega (arith, zeros_few _ _ c.requires)
-
 pub overflow_sub-shift : goal.overflow_sub-shift
 overflow_sub-shift c = shift_there _ _ c.requires
 

@@ -6,12 +6,6 @@ use Rattle.rootsteps.proofs.table.rows.Goals as goal
 pub loop-bit-init : goal.loop-bit-init
 loop-bit-init c = search (rules, stepping_none)
 
-pub next_bit-next-requires : goal.next_bit-next-requires
-next_bit-next-requires c = stepping_within _ _ _ _ _ _ _ c.loop-bit.invariant
-
-pub row-requires : goal.row-requires
-row-requires c = record { rest_bound = stepping_within _ _ _ _ _ _ _ c.loop-bit.invariant; next_value = c.next_bit-next.ensures }
-
 -- one row more
 pub loop-bit-preserved : goal.loop-bit-preserved
 loop-bit-preserved c = stepping_more _ _ _ _ _ _ _ c.loop-bit.invariant _ _ _ (omega arith) c.next_bit-next.ensures c.row.ensures

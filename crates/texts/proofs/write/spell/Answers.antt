@@ -6,9 +6,6 @@ use Rattle.texts.proofs.write.spell.Goals as goal
 pub loop-rest-init : goal.loop-rest-init
 loop-rest-init c = search (rules, spelling_none)
 
-pub overflow_sub-start : goal.overflow_sub-start
-overflow_sub-start c = search (rules, spelling_room)
-
 pub loop-rest-preserved : goal.loop-rest-preserved
 loop-rest-preserved c = search (rules, spelling_more)
 
