@@ -30,14 +30,6 @@ all n l a k s h =
     filled_all nan g a (tabulate g (length l) 0) k h (s.long ∙ sym (tabulate_length g (length l) 0)) s.filled
     (λ j lt. tabulate_at g (length l) 0 j nan (omega (arith, s.long)) ∙ ap g (omega arith))
 
--- nothing is passed yet
-pub loop-k-init : goal.loop-k-init
-loop-k-init c = record { long = refl; filled = λ j h. absurd (omega arith); rest = λ j h. refl }
-
--- a store changes one float alone
-pub loop-k-preserved : goal.loop-k-preserved
-loop-k-preserved c = turn _ _ _ _ c.loop-k.invariant _ (search rules) c.spoiled.ensures
-
 -- all is passed
 pub returns : goal.returns
 returns c = all _ _ _ _ c.loop-k.invariant (search rules)

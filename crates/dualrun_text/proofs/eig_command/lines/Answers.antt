@@ -5,6 +5,3 @@ use Rattle.dualrun_text.proofs.eig_command.lines.Goals as goal
 
 pub returns-in-Ok : goal.returns-in-Ok
 returns-in-Ok c = search (rules, eig_done)
-
-pub returns-in-Err : goal.returns-in-Err
-returns-in-Err c = search (rules, eig_refused)

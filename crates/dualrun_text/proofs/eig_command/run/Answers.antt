@@ -6,8 +6,5 @@ use Rattle.dualrun_text.proofs.eig_command.run.Goals as goal
 pub returns-in-Err : goal.returns-in-Err
 returns-in-Err c = eig_line_refused _ _ _ _ _ _ c.in-Err.refusal _ c.number.ensures c.in-Err.ensures c.pair.ensures
 
-pub in_room-requires : goal.in_room-requires
-in_room-requires c = search (rules, eig_fits)
-
 pub returns : goal.returns
 returns c = eig_goes_on _ _ _ _ _ _ c.in_default.ensures c.in_room.ensures

@@ -5,6 +5,3 @@ use Rattle.dualrun_text.proofs.lu_command.lines.Goals as goal
 
 pub returns-in-Ok : goal.returns-in-Ok
 returns-in-Ok c = search (rules, lu_done)
-
-pub returns-in-Err : goal.returns-in-Err
-returns-in-Err c = search (rules, lu_refused)

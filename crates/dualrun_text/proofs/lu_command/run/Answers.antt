@@ -6,8 +6,5 @@ use Rattle.dualrun_text.proofs.lu_command.run.Goals as goal
 pub returns-in-Err : goal.returns-in-Err
 returns-in-Err c = lu_line_refused _ _ _ _ _ c.in-Err.refusal _ c.number.ensures c.in-Err.ensures c.pair.ensures
 
-pub in_room-requires : goal.in_room-requires
-in_room-requires c = search (rules, lu_fits)
-
 pub returns : goal.returns
 returns c = lu_goes_on _ _ _ _ _ c.in_default.ensures c.in_room.ensures

@@ -16,6 +16,3 @@ pub loop-parts-preserved : goal.loop-parts-preserved
 loop-parts-preserved c =
     let turn = c.in-Some.ensures.steps in
     listing_more _ _ _ _ _ c.loop-parts.invariant _ _ _ _ (length_push c.loop-parts.yielded c.in-Some.parts) turn.0 turn.1.0 turn.1.1 c.record.ensures
-
-pub returns : goal.returns
-returns c = listing_all _ _ _ _ _ c.loop-parts.invariant c.in-None.ensures.steps.1.0

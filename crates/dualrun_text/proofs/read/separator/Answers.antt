@@ -1,9 +1,0 @@
--- By the parity of i: a space, or a newline.
-use borrow.Author.Tests.{eq-eqb, ne_eqb}
-use Rattle.dualrun_text.proofs.read.separator.Goals as goal
-
-pub returns-then-i-eq0 : goal.returns-then-i-eq0
-returns-then-i-eq0 c = simp (eq-eqb _ _ c.if-i-eq0.true)
-
-pub returns-else-i-eq0 : goal.returns-else-i-eq0
-returns-else-i-eq0 c = simp (ne_eqb _ _ c.if-i-eq0.false)

@@ -1,7 +1,0 @@
--- What the entry left crosses: its number and the result.
-use borrow.Author.Rules.{rules}
-use Rattle.exports.proofs.Crossed.{solve_crossed}
-use Rattle.exports.proofs.hyperdual_linalg.evindrast_hyperdual_inverse.Goals as goal
-
-pub returns : goal.returns
-returns c = search (rules, solve_crossed)
