@@ -8,7 +8,6 @@ pub mod BesselTerms
 -- the plan of a request, from what the request is
 mod Requests
 -- the exponents of powi
-mod Exponent
 mod Falling
 -- this crate's promises leave one answer each
 mod OneAnswer

@@ -1,5 +1,4 @@
 -- Laws that the proofs cite.
-mod Crossed
 -- this crate's promises leave one outcome each
 pub mod OneAnswer
 -- calls of the Matrix Market exports, one and two

@@ -174,9 +174,6 @@ module _ {R : Type 0} (A : Algebra R) (L : Layout R) (W : Lawful L) (n : ℕ) (r
   pub finish_done : (swaps : ℕ) → r ≡ going (decode L f) p swaps → length f ≡ n * n * L.width → lu_answered (value swaps) 0 f p ≡ lu_finish A L n r
   finish_done swaps e h = rw e (ap (λ (l : List Float). lu_answered (value swaps) 0 l p) (sym (encode_decode L W f (n * n) h)))
 
-  pub finish_singular : (c : ℕ) → r ≡ singular c → f ≡ replicate (n * n * L.width) float.zero → p ≡ replicate n 0 → lu_answered (refused refusal.singular) c f p ≡ lu_finish A L n r
-  finish_singular c e ef ep = rw e (λ i. lu_answered (refused refusal.singular) c (ef i) (ep i))
-
 -- ---- what LU leaves when it is done
 
 -- a permutation of 0..n-1, and a swap count of its parity, at most n

@@ -7,7 +7,7 @@ use native.Mathlib.Nat.{zero-div, div-eq_of_lt, mod-lt, pow-suc}
 use native.Mathlib.Decide.{dec_lt, ℕ_discrete}
 use native.Mathlib.Omega.{arith}
 use lib.Bits.{bit_xor, xor_shr, xor_mod}
-use lib.Pow.{pow_pos, pow_mono, pow-lt, pow-add, shl-shr, shl_exact, shr-shr, ones_split, ones_lt, high, low, field, mod-mod-pow}
+use lib.Pow.{pow_pos, pow_mono, pow-lt, pow-add, shl-shr, shr-shr, ones_split, ones_lt, high, low, field, mod-mod-pow}
 use lib.Dec.{ltb, eqb}
 use lib.ListN.{length, get_or, drop}
 use borrow.Author.Tests.{lt-ltb, le-ltb, eq-eqb, ne_eqb}
@@ -66,10 +66,6 @@ marked_below x y = go (dec_lt y x)
         ap (λ (k : ℕ). eqb (k / 2 ^ y % 2) 1) (ap (λ (k : ℕ). 2 ^ k - 1) e ∙ ones_split (suc j) y)
         ∙ ap (λ (k : ℕ). eqb (k % 2) 1) (high (2 ^ suc j - 1) y (ones_lt y)) ∙ ap (λ (k : ℕ). eqb k 1) odd ∙ sym (lt-ltb y x h)
     go (no h) = let m : 2 ^ x ≤ 2 ^ y = pow_mono (omega arith) in marked_past (2 ^ x - 1) y (omega (arith, pow_pos x)) ∙ sym (le-ltb y x (omega arith))
-
--- the code's 1 << x
-pub one_shifted : (x : ℕ) → x < 64 → 1 * 2 ^ x % 2 ^ 64 ≡ 2 ^ x
-one_shifted x h = shl_exact 1 x 64 (omega arith) (omega arith) ∙ omega arith
 
 -- ---- the parity: w marks those that an odd number of what has come is above
 

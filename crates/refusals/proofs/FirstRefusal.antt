@@ -1,7 +1,7 @@
 -- Tests one after another, the first that fails giving its number: the two ways out of a test, and lengths that are asked together. A function that refuses finds its
 -- ways out by the ruleset `tests`. Assumes nothing.
 use Prim.Native.Nat.{ℕ}
-use mathlib.Core.Path.{◌≡◌, refl, ap, sym, ◌∙◌}
+use mathlib.Core.Path.{◌≡◌, refl, ap, ◌∙◌}
 use mathlib.Core.Bool.{Bool, true, false, cond, ◌&&◌}
 use lib.Dec.{eqb}
 use borrow.Author.Tests.{lt-ltb, le-ltb, eq-eqb, ne_eqb}
@@ -13,14 +13,6 @@ module _ {S : Type 0} (t : Bool) (x y r : S) where
 
   pub when_false : t ≡ false → r ≡ y → r ≡ cond t x y
   when_false h e = rw h e
-
--- the same where b is what the code found of it
-module _ {S : Type 0} (t b : Bool) (x y r : S) (told : b ≡ t) where
-  pub test_true : b ≡ true → r ≡ x → r ≡ cond t x y
-  test_true h e = when_true t x y r (sym told ∙ h) e
-
-  pub test_false : b ≡ false → r ≡ y → r ≡ cond t x y
-  test_false h e = when_false t x y r (sym told ∙ h) e
 
 -- a length x where y is wanted, and the lengths after it
 pub this_off : (x y : ℕ) (later : Bool) → (x ≡ y → ⊥) → (eqb x y && later) ≡ false

@@ -14,13 +14,6 @@ use Rattle.rootsteps.specs.Table.{leading_row, verdict, rows_of, sum_line, neare
 use Rattle.rootsteps.specs.Output.{output_for, output_of}
 
 module _ (u v : Writer) where
-  -- a bit fits where the trial is no more than the rest
-  pub fits_yes : (trial rest : ℕ) → trial ≤ rest → Puts u v yes → Puts u v (verdict (leb trial rest))
-  fits_yes trial rest h p = puts_as p (ap verdict (sym (le-leb trial rest h)))
-
-  pub fits_no : (trial rest : ℕ) → rest < trial → Puts u v no → Puts u v (verdict (leb trial rest))
-  fits_no trial rest h p = puts_as p (ap verdict (sym (lt-leb trial rest h)))
-
   -- what a text asks, by the reader's answer
   pub answered : (text : List ℕ) (q case : Option Steps) → q ≡ request_of text → q ≡ case → Puts u v (output_for case) → Puts u v (output_of text)
   unfolding output_of

@@ -15,13 +15,6 @@ use Rattle.rootsteps.specs.Start.{top_of, shift_of, odd_of, significand_of, expo
 pub weight : (k : ℕ) → k ≤ most_bits → 1 * 2 ^ k % 2 ^ 64 ≡ 2 ^ k
 weight k h = shl_exact {a = 1} 1 k 64 (lit< tt) (omega arith) ∙ (let e : 1 * 2 ^ k ≡ 2 ^ k = omega arith in e)
 
--- the weight of the leading bit
-pub top_is : (bits : ℕ) → bits ≤ most_bits → 1 * 2 ^ (bits - 1) % 2 ^ 64 ≡ top_of bits
-top_is bits h = weight (bits - 1) (omega arith)
-
-pub top_small : (bits : ℕ) → bits ≤ most_bits → top_of bits ≤ 2 ^ most_bits
-top_small bits h = pow_mono {i = bits - 1} {j = most_bits} (omega arith)
-
 module _ (number bits : ℕ) (asks : Askable number bits) where
   in_word : number < 2 ^ 64
   in_word = lt_of_lt_of_le asks.fits (pow_mono {i = bits} {j = 64} (let h = asks.few in omega arith))

@@ -1,7 +1,6 @@
 -- An exponent within 1024 of zero: every product of it fits an i32, and is read back from its bits as it is (Falling).
-use borrow.Author.Rules.{rules}
 use Rattle.derivatives.specs.Series.{powi_series}
-use Rattle.derivatives.proofs.Falling.{one_less_fits, two_less_fits, second_fits, third_fits, exp_back, one_less_back, two_less_back, second_back, third_back}
+use Rattle.derivatives.proofs.Falling.{third_fits, exp_back, one_less_back, two_less_back, second_back, third_back}
 use Rattle.derivatives.proofs.Series.powi.Goals as goal
 
 -- exp (exp - 1) (exp - 2) fits, once its factors are read back
