@@ -7,29 +7,19 @@ ghost use Rattle.std.specs.Prelude.{◌≡◌, [], ◌∷◌, cond};
 ghost use Rattle.algebra.specs.Flat.{record_at};
 ghost use Rattle.floats.specs.Words.{floats_of};
 ghost use Rattle.replay.specs.Same.{same_numbers};
-ghost use Rattle.replay_matrices.specs.Cases.{same_floats};
 ghost use Rattle.replay_methods.specs.Methods.{float_at, same_method};
 
 use floats::words;
 use records::{Compared, Record};
 use refusals::LARGEST_WIDTH;
 use replay::same::same_words;
+use replay_matrices::same_record;
 
 // Whether the file has 1 for what holds, 0 for what does not.
 fn same_truth(wanted: &[u64], holds: bool) -> bool
     ensures { result ≡ same_numbers wanted.now (cond holds 1 0 ∷ []) }
 {
     same_words(wanted, &[u64::from(holds)])
-}
-
-// Whether the file has the parts of a record.
-fn same_record<R: Record>(wanted: &[u64], x: R) -> bool
-    ensures { result ≡ same_floats wanted.now (R.layout.parts x) }
-{
-    let mut parts = [0.0; LARGEST_WIDTH];
-    let parts = &mut parts[..R::width()];
-    R::write(parts, 0, x);
-    same_words(wanted, parts)
 }
 
 #[tactic(auto, unfolding(crate::specs::Methods::same_method))]
