@@ -1,5 +1,5 @@
 // The cases of records-KIND.txt and runs-KIND.txt (oracle/README.md): what a case of each function holds, its records through the pool, and its answer compared.
-// Kept: how many parts a record has is what a kind answers; a type of it would be taken apart at each call.
+// Kept: here and in read.rt, how many parts a record has is what a kind answers; a type of it would be taken apart at each call.
 
 #![tactic(auto)]
 
