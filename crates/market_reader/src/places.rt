@@ -23,7 +23,7 @@ fn number_at(numbers: &[f64], i: usize) -> f64
 }
 
 // The matrix row by row, from its entries column by column.
-// Kept: counted by row and column, which say where the entry stands: over the records they would be divided out of an index, and read no plainer.
+// Kept: counted by row and column, which say where the entry stands: chunks of a row want a row's length above 0, and n may be 0.
 fn fill(shape: Shape, numbers: &[f64], width: usize, out: &mut [f64])
     requires { Square width shape.n out.old }
     ensures { out.new ≡ matrix_of width (is_symmetric shape.symmetry) shape.n numbers.now }

@@ -1,6 +1,6 @@
 // Replays the recorded answers of Jacobi over `Dual`: jacobi.txt. A case is run as the file has it and again with (NaN, 42) below the diagonal; both
 // runs are to give the file's answer.
-// Kept: n within the limit is what `read_head` answers, and is asked at one call: a type of it would be taken apart at once.
+// Kept: n within the limit is what `read_head` answers, and is asked by `Room::run` alone: a type of it would be taken apart at once.
 
 #![tactic(auto)]
 

@@ -1,5 +1,5 @@
 // The entries over the record of a width.
-// Kept: two records by an enum, matched where the generic entry is chosen.
+// Kept: a match in each, since a generic function is chosen where it is called: no closure is passed that is one over any record.
 ghost use Rattle.std.specs.Prelude.{◌≡◌};
 ghost use Rattle.algebra.specs.Outcome.{outcome};
 ghost use Rattle.market.specs.Answers.{answered};

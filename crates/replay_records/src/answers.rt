@@ -15,7 +15,7 @@ use kinds::Kind;
 use refusals::Refusal;
 use replay_table::read::Case;
 
-// Kept: numbers in place of an enum, since the files name a function by its number in oracle/README.md.
+// Kept: numbers in place of an enum, since files and C interface name a function by its number in oracle/README.md.
 const NDERIV: u32 = 0x03;
 
 const SUM: u32 = 0x39;

@@ -1,4 +1,5 @@
 // What is printed of a function and of a case that differs.
+// Kept: by hand, as `Tally::report`: `println!` answers an error where nothing can be written, and the program goes on there as it did.
 use replay::tally::Tally;
 use replay_table::read::Case;
 

@@ -1,5 +1,5 @@
 // The call of a case, and what came of it.
-// Kept: each closure may be asked at any arguments, which Rattle wants said of each that takes one.
+// Kept: `IsAlwaysCallable` is said of a closure's own type, so at each function that takes one; the numbers that closures answer are those of the C interface.
 use replay_outcomes::filling::Order;
 use replay_outcomes::lent::{FEW, MOST_FLOATS};
 use replay_outcomes::{Outcome, filling, lent};

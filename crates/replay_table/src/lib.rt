@@ -1,5 +1,5 @@
 // The cases of records-KIND.txt and runs-KIND.txt (oracle/README.md): what a case of each function holds, its records through the pool, and its answer compared.
-// Kept: how many parts a record has is what a kind answers; a type of it would be taken apart at each call.
+// Kept: here and in read.rt, how many parts a record has is what a kind answers; a type of it would be taken apart at each call.
 
 #![tactic(auto)]
 
@@ -87,6 +87,7 @@ pub fn exponent(w: u64) -> i32
 }
 
 // A truth is recorded as 1 or 0; a call gives it as the word of 1.0 or 0.0. 2 for what is neither.
+// Kept: a number, since it stands among the words of an answer, where no file has 2; `truth_of` gives it (specs/Table.antt).
 pub fn truth(word: u64) -> u64
     ensures { result ≡ truth_of word }
 {

@@ -1,5 +1,5 @@
 // A case, read.
-// Kept: values beside an Err. Of a case that is cut all is read, with 0 for each word that is not there, since what the program prints of it may not change.
+// Kept: the number of parts, as in lib.rt; values beside an Err. Of a case that is cut all is read, with 0 for each word that is not there, since what the program prints of it may not change (`print::case` of `replay_records`).
 ghost use Rattle.std.specs.Prelude.{◌≡◌, ◌≤◌, ◌<◌, length};
 ghost use Rattle.refusals.specs.Largest as largest;
 ghost use Rattle.replay_table.specs.Table.{most_words, most_answer};
