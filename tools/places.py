@@ -5,7 +5,8 @@ usage: tools/places.py [POINT] [FOLDER]    the counts, a line a kind, of this ch
                                           with a POINT (1 to 8) each place by file and line
 
 What is counted says each kind's own line in `KINDS`. A place is kept where a comment `// Kept:` gives the reason: in its
-line, in one of the three above it, at the head of its file, or above it for more places than one ("here and ..").
+line, in one of the three above it, above its function, or for more places than one at the head of the file or above
+("here and .."), where it has one of the words that stand with the kind.
 """
 
 import glob
@@ -125,18 +126,28 @@ def travelling():
             yield path, number
 
 
+def printing():
+    """A function that prints or reports, and a file whose functions put text to a `Writer`."""
+    yield from by_line(r"\bfn (print|report|show)\w*")()
+    for path, lines in sources():
+        puts = [number for number, line in enumerate(lines) if re.search(r"\bfn \w+\(page: &mut Writer", line)]
+        if puts and path.endswith(("write.rt", "table.rt", "lines.rt")):
+            yield path, puts[0]
+
+
 def ranges(indexing):
     """A `for` over a range of numbers: those whose number stands in an index of the loop's lines, or the others."""
     for path, lines in sources():
         for number, line in enumerate(lines):
-            told = re.match(r"(\s*)for (\w+) in .*\.\.", line)
-            if not told or told.group(2).startswith("_"):
+            told = re.match(r"(\s*)for \(?(\w+)(?:, \w+\))? in (.*\.\.|.*\.enumerate\(\))", line)
+            if not told or told.group(2).startswith("_") or ("enumerate" in line and not indexing):
                 continue
             inside, at = [], number + 1
             while at < len(lines) and lines[at] != told.group(1) + "}":
                 inside.append(lines[at])
                 at += 1
-            uses = re.search(r"\[[^\]]*\b" + told.group(2) + r"\b[^\]]*\]", "\n".join(inside))
+            index = r"\[" + told.group(2) + r"\]" if "enumerate" in line else r"\[[^\]]*\b" + told.group(2) + r"\b[^\]]*\]"
+            uses = re.search(index, "\n".join(inside))
             if bool(uses) == indexing:
                 yield path, number
 
@@ -165,27 +176,29 @@ def answers():
 
 C = ("exports_c",)
 KINDS = {
-    1: [("an own enum with a variant for refused, missing or over", answer_enums),
-        ("a function that answers a refusal's number", by_line(r"\bfn .*-> u32\b|^\) -> u32", C)),
-        ("a refusal's number by a constant", by_line(r"\brefusals::(?!LARGEST|LEAST|SINGULAR)[A-Z][A-Z_]+\b", C)),
-        ("a flag or a count that says whether the value beside it is there", by_line(r"^\s+(pub )?(whole|there|found|digits): (bool|u32)\b")),
-        ("a number for a kind, an entry or a width that chooses", by_line(r"\b(kind|entry): u(8|32)\b|if width == |^const (READ|WRITE|[A-Z]+_ENTRY): u", C))],
-    2: [("a function that is another's twin", twins)],
-    3: [("a `while` loop that counts by hand", counting),
-        ("a `for` over a range whose number indexes a slice", lambda: ranges(True)),
-        ("a `for` over a range of other numbers: rows, columns, records", lambda: ranges(False))],
-    4: [("equality, order or a copy by hand", by_line(r"\bfn (eq|ne|lt|le|gt|ge|cmp|copy|clear|clone|least|same_words|same_text)\b")),
-        ("printing by hand", by_line(r"\bfn (print|report|show)\w*"))],
-    5: [("a `requires` that three functions or more have", repeated_requires),
-        ("a function with parameters that always come together, in three", travelling)],
-    6: [("a buffer with a place beside it", by_line(r"(out|buffer|text): &(mut )?\[.*(at|p|place|end): (usize|Place)\b"))],
-    7: [("a choice of what to run by a number", by_line(r"\bmatch (kind|entry|width)\b|if (width|entry) == "))],
-    8: [("a goal that a file answers", answers)],
+    1: [("an own enum with a variant for refused, missing or over", answer_enums, "Seen|enum"),
+        ("a function that answers a refusal's number", by_line(r"\bfn .*-> u32\b|^\) -> u32", C), "number"),
+        ("a refusal's number by a constant", by_line(r"\brefusals::(?!LARGEST|LEAST|SINGULAR)[A-Z][A-Z_]+\b", C), "number"),
+        ("a flag or a count that says whether the value beside it is there", by_line(r"^\s+(pub )?(whole|there|found|digits|stopped): (bool|u32|usize)\b"), "digits|stopped"),
+        ("a number for a kind, an entry or a width that chooses", by_line(r"\b(kind|entry): u(8|32)\b|if width == |^const (READ|WRITE|[A-Z]+_ENTRY): u"), "number")],
+    2: [("a function that is another's twin", twins, "part by part|differ")],
+    3: [("a `while` loop that counts by hand", counting, "loop"),
+        ("a `for` over a range or an `enumerate` whose number indexes a slice", lambda: ranges(True), "loop|range|counted|place"),
+        ("a `for` over a range of other numbers: rows, columns, records", lambda: ranges(False), "loop|range|counted|numbers")],
+    4: [("equality, order or a copy by hand", by_line(r"\bfn (eq|ne|lt|le|gt|ge|cmp|copy|clear|clone|same_words|same_text)\b"), "by hand|=="),
+        ("printing by hand", printing, "Writer|println")],
+    5: [("a `requires` that three functions or more have", repeated_requires,
+         "requires|contract|limit|asked|taken apart|made anew|closure|`bw`|Square|Strided|p and q|order's length|rooms|parts|no struct of both"),
+        ("a function with parameters that always come together, in three", travelling,
+         "parameters|come apart|beside|together|p and q|rooms|a, x|sine|no struct of both")],
+    6: [("a buffer with a place beside it", by_line(r"(out|buffer|text): &(mut )?\[.*(at|p|place|end): (usize|Place)\b"), "place")],
+    7: [("a choice of what to run by a number", by_line(r"\bmatch (kind|entry|width|Kind::try_from\(kind\))( |\b)|if (width|entry) == "), "enum|match|C interface|number")],
+    8: [("a goal that a file answers", answers, "")],
 }
 
 
-def kept(path, number):
-    """Whether a reason stands at the place, above it for more places than one, or at the head of the file."""
+def kept(path, number, words):
+    """Whether a reason stands at the place or above its function, or one with such a word for more places than one."""
     if not path.endswith(".rt"):
         return False
     with open(os.path.join(ROOT, path), encoding="utf-8") as file:
@@ -196,19 +209,25 @@ def kept(path, number):
     while near > 0 and lines[near - 1].lstrip().startswith(("//", "#[", "ensures", "requires")):
         near -= 1
     near = min(near, max(0, number - 3))
-    reasons = [at for at, line in enumerate(lines[:number + 1]) if "// Kept:" in line]
-    return any(at >= near or at < 4 or re.search(r"Kept: (here and|in `|a match for each)", lines[at]) for at in reasons)
+    for at, line in enumerate(lines[:number + 1]):
+        if "// Kept:" not in line:
+            continue
+        if at >= near and at > 4:
+            return True
+        if (at < 5 or re.search(r"Kept: (here|in `|a match for each|by hand)", line)) and re.search(words, line):
+            return True
+    return False
 
 
-def main(words):
-    points = [int(word) for word in words if word.isdigit()]
+def main(given):
+    points = [int(word) for word in given if word.isdigit()]
     point = points[0] if points else None
     for each, kinds in KINDS.items():
         if point not in (None, each):
             continue
-        for said, places in kinds:
+        for said, places, words in kinds:
             found = list(places())
-            stays = [place for place in found if kept(*place)]
+            stays = [place for place in found if kept(*place, words)]
             print(f"{each}  {len(found):5}  {len(stays):5} kept  {said}")
             if point:
                 for path, number in found:

@@ -81,6 +81,7 @@ pub(crate) fn answer(
 }
 
 // Whether the record's own method, where the function has one beside its call, gives the file's answer.
+// Kept: a match, as those of `kinds`, since each arm names a type.
 fn same_method(kind: Kind, function: u64, records: &[u64], floats: &[u64], wanted: &[u64]) -> bool
     ensures { result ≡ same_method_of kind function records.now floats.now wanted.now }
 {
