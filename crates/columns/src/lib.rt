@@ -69,6 +69,7 @@ fn reduce_rows<R: Record>(n: usize, a: &mut [f64], i: usize)
 }
 
 // Column i: the pivot, the exchange, the rows below.
+// Kept: here and in reduce_rows, i and the order's length are those of one column of one run: a type of them would be made anew at each call.
 fn run_column<R: Record>(
     n: usize,
     a: &mut [f64],

@@ -64,7 +64,7 @@ pub enum Function {
 }
 
 // What a record x does for a request.
-// Kept: a refusal is one plan of thirteen, beside which a Result would be taken apart twice.
+// Kept: plan_of and run_plan, which PROMISES names, have the refusal as one plan.
 #[derive(Clone, Copy)]
 pub enum Plan {
     // what it is refused for

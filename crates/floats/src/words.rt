@@ -24,6 +24,7 @@ pub fn put(parts: &[f64], out: &mut [u64])
     requires { length out.old ≡ length parts.now }
     ensures { out.new ≡ words_of parts.now }
 {
+    // Kept: tried over `out.iter_mut().zip(parts)`, and the proof did not close: of what is written through it nothing is known at its end.
     for (i, word) in out.iter_mut().enumerate() {
         *word = real::word_of_float(parts[i]);
     }

@@ -29,6 +29,7 @@ pub struct NoPivot {
 }
 
 // What LU is refused for; where it is done it answers the number of swaps.
+// Kept: an error enum, the one of LU's Result.
 #[derive(Clone, Copy, Debug, PartialEq, Eq, Hash)]
 pub enum LuRefusal {
     Refused(Refusal),

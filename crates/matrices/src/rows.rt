@@ -23,6 +23,7 @@ fn better_row(x: f64, k: usize, b: Pivot) -> Pivot
 }
 
 // The first row from i on with the greatest real part in column i, by magnitude; magnitude 0 where none exceeds 0.
+// Kept: a magnitude of 0 where there is none, as pivot_of, which this function is equal to, has it.
 fn find_pivot(w: usize, n: usize, a: &[f64], i: usize) -> Pivot
     requires square { Square w n a.now }
     requires i_lt_n { i < n }
@@ -52,6 +53,7 @@ fn exchange_rows(k: usize, a: &mut [f64], p: usize, q: usize)
 }
 
 // Column i: its pivot's row exchanged with row i, whole and in the order, if they differ; nothing where no pivot exceeds zero.
+// Kept: here and in find_pivot, i and the order's length are those of one column of one run: a type of them would be made anew at each call.
 pub fn bring_pivot(
     w: usize,
     n: usize,

@@ -248,7 +248,6 @@ pub trait Record: Copy {
     }
 
     // The sum of the records of a run, from zero, left to right. A length that is not whole records is refused.
-    // Kept: in `sum` and `product` a record is read by its number, since no iterator over floats gives records; a fold over the numbers with the operation is no plainer.
     final fn sum(floats: &[f64]) -> Result<Self, Refusal>
         ensures { outcome result ≡ sum_of layout algebra floats.now }
     {
@@ -256,8 +255,8 @@ pub trait Record: Copy {
             return Err(Refusal::WrongLength);
         }
         let mut acc = Self::zero();
-        for p in 0..floats.len() / Self::width() {
-            acc = acc.add(Self::read(floats, p));
+        for part in floats.chunks_exact(Self::width()) {
+            acc = acc.add(Self::read(part, 0));
         }
         Ok(acc)
     }
@@ -270,8 +269,8 @@ pub trait Record: Copy {
             return Err(Refusal::WrongLength);
         }
         let mut acc = Self::one();
-        for p in 0..floats.len() / Self::width() {
-            acc = acc.mul(Self::read(floats, p));
+        for part in floats.chunks_exact(Self::width()) {
+            acc = acc.mul(Self::read(part, 0));
         }
         Ok(acc)
     }

@@ -52,6 +52,8 @@ fn less_product<R: Record>(v: R, a: &[f64], p: usize, x: &[f64], q: usize) -> R
 }
 
 // v less the products of row i with x, columns lo..hi.
+// Kept: here and below, a, x and place come apart: a is read while x is lent, here to be read and below to be written, and `inverse_run` has a place for each column: a struct of them would be made anew for each.
+// Kept: here and below, `i < n` is asked of the turn of a loop, which a type of i would be made for and taken apart in.
 fn less_row<R: Record>(
     a: &Factors<R>,
     x: &[f64],
