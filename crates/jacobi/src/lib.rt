@@ -32,6 +32,7 @@ const SMALL_ROW: usize = SMALL_N * 2;
 const SMALL_MATRIX: usize = SMALL_N * SMALL_ROW;
 
 // How the sweeps ended: their count, and whether the threshold was zero at last.
+// Kept: `stopped` stands beside `sweeps`, since `ended` of specs/Sort, and so `jacobi_of`, says beside the sweeps whether the run settled: their meaning may not change.
 #[derive(Clone, Copy, Debug, PartialEq, Eq, Hash)]
 pub(crate) struct Ended {
     pub sweeps: usize,

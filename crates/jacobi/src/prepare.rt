@@ -1,5 +1,6 @@
 // What a run starts from.
 // Kept: the loops run over the numbers of the diagonal, by which `Record` reads and writes in flat floats.
+// Kept: `bw` stands beside `work` for the reason in lib.rt; `Square 2 n v` stands in two contracts, of a matrix that is one field of `Work` lent alone.
 ghost use Rattle.std.specs.Prelude.{◌≡◌};
 ghost use Rattle.algebra.specs.Loop.{upto};
 ghost use Rattle.dual.specs.Rules.{dual_algebra, dual_records};

@@ -1,5 +1,6 @@
 // The values in order of their real parts, their vectors' columns with them.
 // Kept: the loops run over the numbers of columns and of rows, by which values and vectors are read and exchanged in flat floats.
+// Kept: `Square 2 n v` stands in one contract, of a field of `Work` lent alone; a struct within a struct did not prove, as lib.rt says.
 ghost use Rattle.std.specs.Prelude.{◌≡◌, ◌<◌};
 ghost use Rattle.dual.specs.Rules.{dual_algebra, dual_records};
 ghost use Rattle.matrices.specs.Matrix.{Square};

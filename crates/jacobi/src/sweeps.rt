@@ -1,5 +1,6 @@
 // The sweeps of a run.
 // Kept: the loops run over numbers, of rows and columns that call the next loop, and in `add_all` of records in flat floats, which `Record` reads and writes by number.
+// Kept: `bw` stands beside `work` for the reason in lib.rt; `add_all` and `close_sweep` take fields of `Work` lent alone.
 ghost use Rattle.std.specs.Prelude.{◌≡◌, ◌+◌, ◌*◌, ◌<◌, ◌≤◌, is_some, replicate};
 ghost use Rattle.std.specs.ControlFlow.{break_value};
 ghost use Rattle.refusals.specs.Largest as largest;

@@ -6,9 +6,13 @@ use Rattle.real.proofs.Only.{Only}
 use Rattle.calls.proofs.OneAnswer.{answer_one}
 use Rattle.refusals.proofs.Refusal.number as number
 use Rattle.kinds.proofs.Kind as own
+use Rattle.kinds.proofs.KindTryFromU32.try_from as try-from
 
 pub number_only : Only 0 number.Kinds.ps number.Kinds.r number.Reads.Pre number.Reads.Post
 number_only κs a x y v w h p q = (p ∙ sym q, refl)
+
+pub try_from_only : Only 0 try-from.Kinds.ps try-from.Kinds.r try-from.Reads.Pre try-from.Reads.Post
+try_from_only κs a x y v w h p q = (p ∙ sym q, refl)
 
 pub width_only : Only 0 own.width.Kinds.ps own.width.Kinds.r own.width.Reads.Pre own.width.Reads.Post
 width_only κs a x y v w h p q = (p.0 ∙ sym q.0, refl)

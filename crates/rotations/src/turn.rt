@@ -1,5 +1,6 @@
 // The loops of a rotation.
 // Kept: each loop runs over numbers, of which it makes the rows and columns of two entries; no slice has these in a row.
+// Kept: `p < q` stands in three contracts, since p and q are one entry above the diagonal, by which rows and columns are read apart.
 ghost use Rattle.std.specs.Prelude.{◌≡◌, ◌<◌, ◌≤◌, length};
 ghost use Rattle.dual.specs.Rules.{dual_algebra, dual_records};
 ghost use Rattle.matrices.specs.Matrix.{Square};
