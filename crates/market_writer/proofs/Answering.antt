@@ -1,6 +1,8 @@
 -- What the writer leaves, way by way. Assumes nothing.
 use Rattle.std.proofs.Common.{◌≡◌, ℕ, ◌+◌, ◌-◌, ◌*◌, ◌<◌, ◌≤◌, Bool, true, false, List, ◌++◌, length, take, drop, replicate, sym, ap, ◌∙◌, arith, le-ltb, lt-ltb, eq-eqb, ne_eqb}
-use lib.Seq.{sets, sets-eq, take-append_seam}
+use mathlib.Core.List.{append-nil}
+use lib.ListN.{length-drop, drop_of_length-le}
+use lib.Seq.{sets, sets-eq, take-append_seam, length-take-le}
 use lib.Ieee.{Float}
 use Rattle.refusals.specs.Number as refusal
 use Rattle.refusals.specs.Largest as largest
@@ -12,6 +14,14 @@ use Rattle.market.specs.Text.{text_of, is_writable}
 use Rattle.market.specs.Write as Write
 use Rattle.market.specs.Write.{write_text, write_left}
 use Rattle.market.proofs.Length.{text_short}
+
+-- zeros from a place on fill the rest
+pub zeros_after : (m l : List ℕ) (end : ℕ) → end ≤ length m → l ≡ replicate (length (take (length m - end) (drop end m))) 0 → take end m ++ (l ++ drop (length m - end) (drop end m)) ≡ take end m ++ replicate (length m - end) 0
+zeros_after m l end h e =
+    let rest : length (drop end m) ≡ length m - end = length-drop end m in
+    ap (λ (x : List ℕ). take end m ++ x)
+    (ap (λ (x : List ℕ). l ++ x) (drop_of_length-le (drop end m) {i = length m - end} (omega (arith, rest)))
+    ∙ append-nil l ∙ e ∙ ap (λ (k : ℕ). replicate k 0) (length-take-le (length m - end) (drop end m) (omega (arith, rest))))
 
 module _ (w n : ℕ) (a : List Float) (out : List ℕ) where
   pub write_large : largest.n < n → answered (refused refusal.too_large) out ≡ write_left w n a out

@@ -1,5 +1,4 @@
 // The writer of Matrix Market texts: `array integer general`, without comments or leading zeros, into lent bytes.
-// Kept: `zeros` fills from a place on, since the text before it stays.
 
 #![tactic(auto)]
 
@@ -15,14 +14,6 @@ ghost use Rattle.market.specs.Write.{write_left};
 use matrix::Matrix;
 use records::Record;
 use refusals::Refusal;
-
-// Zeros from `at` on.
-fn zeros(out: &mut [u8], at: usize)
-    requires { at ≤ length out.old }
-    ensures { out.new ≡ take at out.old ++ replicate (length out.old - at) 0 }
-{
-    out[at..].fill(0);
-}
 
 // A matrix of records as a `general` text at the start of 20,480 bytes, zeros after it; its length. A refusal writes nothing.
 pub fn write<R: Record>(n: usize, a: &[f64], text: &mut [u8]) -> Result<usize, Refusal>
@@ -44,6 +35,6 @@ pub fn write<R: Record>(n: usize, a: &[f64], text: &mut [u8]) -> Result<usize, R
         return Err(Refusal::Unwritable);
     }
     let end = lines::text(matrix, text);
-    zeros(text, end);
+    text[end..].fill(0);
     Ok(end)
 }

@@ -1,5 +1,6 @@
 // Writing, line by line.
-// Kept: the loops run over columns and rows, which the format counts so; `entry` reads the record there.
+// Kept: by a Writer and not Display, since its promise is the bytes that are put, as far as they fit; the loops run over columns and rows, which the format
+// counts so, and `entry` reads the record there.
 ghost use Rattle.std.specs.Prelude.{◌≡◌, ◌*◌};
 ghost use Rattle.std.specs.Float.Ieee.{lt};
 ghost use Rattle.real.specs.Operations.{zero};

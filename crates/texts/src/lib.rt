@@ -8,6 +8,7 @@ pub mod whole;
 pub mod write;
 
 // Digits read from a place on: what they spell, and how many there are.
+// Kept: digits is how many there are, by which the callers find the place after them, and no flag.
 #[derive(Clone, Copy)]
 pub struct Scan {
     pub value: u64,
