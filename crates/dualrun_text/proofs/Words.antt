@@ -10,7 +10,9 @@ use lib.Seq.{ext_get_or, get_or-set_same, get_or-set_other}
 use lib.Ieee.{Float, nan, binary64, of_bits}
 use borrow.Author.Count.{below_more}
 use borrow.Author.Tests.{eq-eqb, ne_eqb}
-use Rattle.std.specs.Prelude.{Option, Some, None}
+use Rattle.std.specs.Prelude.{Option, Some, None, Result, Err}
+use Rattle.std.specs.Option.{ok_or}
+use Rattle.refusals.specs.declared.Refusal.{Refusal}
 use Rattle.algebra.specs.Flat.{tabulate}
 use Rattle.algebra.proofs.Flat.{tabulate_length, tabulate_at}
 use Rattle.texts.specs.declared.Scan.{Scan}
@@ -69,6 +71,11 @@ module _ (text : List ℕ) (start i : ℕ) where
 
     pub word_spells : (v : ℕ) → w ≡ Some v → v ≡ word_of text start i
     word_spells v g = let h : Some v ≡ Some (word_of text start i) = sym g ∙ read ∙ sym (by_test true (is_word_lem v g)) in cc
+
+-- ---- no word, and the refusal in its place
+pub none_of : (w : Option ℕ) (refusal e : Refusal) → ◌≡◌ {A = Result ℕ Refusal} (Err e) (ok_or w refusal) → (w ≡ None) × (e ≡ refusal)
+none_of None refusal e given = (refl, cc)
+none_of (Some x) refusal e given = absurd (cc)
 
 -- ---- the lines whole
 -- what the reader keeps: the words below i are good, and their floats stand in the matrix of m floats

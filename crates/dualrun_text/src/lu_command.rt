@@ -35,6 +35,7 @@ fn lines(
 }
 
 // The matrix read from its lines, the text after the first one, factored and printed.
+// Kept: with `in_room` a near twin of eig_command's; they share two calls, and a closure for the rest would have to promise the same buffers and lines again.
 fn of_lines(
     page: &mut Writer,
     rest: &[u8],

@@ -106,9 +106,7 @@ pub(crate) fn body(rest: &[u8], matrix: &mut [f64]) -> Result<(), Refusal>
         return Err(Refusal::Unreadable);
     }
     for (i, x) in matrix.iter_mut().enumerate() {
-        let Some(word) = word(rest, i) else {
-            return Err(Refusal::Unreadable);
-        };
+        let word = word(rest, i).ok_or(Refusal::Unreadable)?;
         *x = real::float_of_word(word);
     }
     Ok(())

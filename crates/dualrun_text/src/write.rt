@@ -1,4 +1,5 @@
 // The lines that are printed.
+// Kept: by a Writer and not Display, since its promise is the bytes that are put, as far as they fit.
 ghost use Rattle.std.specs.Prelude.{◌≡◌, ◌/◌, length};
 ghost use Rattle.refusals.specs.Refused.{number};
 ghost use Rattle.texts.specs.Page.{Puts};

@@ -27,11 +27,8 @@ impl<'a> Matrix<'a> {
     pub fn is_writable(self) -> bool
         ensures { result ≡ is_writable self.entry.width self.entry.floats.now }
     {
-        for record in self.floats.chunks_exact(self.width) {
-            if !numbers::is_writable(record) {
-                return false;
-            }
-        }
-        true
+        self.floats
+            .chunks_exact(self.width)
+            .all(|record| numbers::is_writable(record))
     }
 }

@@ -1,4 +1,5 @@
 // Writing the table, line by line.
+// Kept: by a Writer and not Display, since its promise is the bytes that are put, as far as they fit.
 ghost use Rattle.std.specs.Prelude.{◌≡◌, ◌+◌, ◌-◌, ◌*◌, ◌/◌, ◌^◌, ◌<◌, leb};
 ghost use Rattle.real.specs.Bits.{next_of};
 ghost use Rattle.texts.specs.Page.{Puts};
