@@ -1,5 +1,6 @@
 // The operators of two records, each by a function of its own: what `evindrast_record` leaves for its number and no floats, without the table.
 // Kept: the parameters and the numbers that are answered are those of the C interface.
+// Kept: the match is that of record.rt; tried `Kind::try_from(kind).and_then(..)`, and the proof did not close: that contract does not say that `out` stays where the closure is not called.
 ghost use Rattle.std.specs.Prelude.{◌≡◌, [], pos};
 ghost use Rattle.calls.specs.Called.{binary_number};
 ghost use Rattle.calls.specs.declared.Binary.TheVariants.{Add, Sub, Mul, Div};

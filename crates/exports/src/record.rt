@@ -1,5 +1,6 @@
 // The operations, requests, sums and products of the five record types. A kind is a number: 1 `Dual`, 2 `Dual2`, 3 `Dual3`, 4 `HyperDual`, 5 `HyperHyperDual`.
 // Kept: the parameters and the numbers that are answered are those of the C interface.
+// Kept: the same match in each; tried `Kind::try_from(kind).and_then(..)`, and the proof did not close: that contract does not say that `out` stays where the closure is not called.
 ghost use Rattle.std.specs.Prelude.{◌≡◌};
 ghost use Rattle.exports.specs.ByKind.{record_left, sum_left, product_left};
 

@@ -79,6 +79,7 @@ fn sweep(work: &mut Work, thresh: f64, it_num: usize)
 }
 
 // bw += zw
+// Kept: the loop by number; tried `chunks_exact_mut(2)` with `zip`, and the proof did not close: what its parts have added to the records.
 fn add_all(n: usize, zw: &[f64], bw: &mut [f64])
     requires vectors { Vector n zw.now × Vector n bw.old }
     ensures { dual_records bw.new ≡ rule.add_all dual_algebra n (dual_records zw.now) (dual_records bw.old) }

@@ -1,5 +1,5 @@
 -- No second outcome meets the promise of a public function of this crate, nor of the number of a refusal. Assumes nothing.
-use mathlib.Core.Path.{◌≡◌, refl, ap, sym, ◌∙◌}
+use mathlib.Core.Path.{refl, ap, sym, ◌∙◌}
 use borrow.Fn.Kinds.{ended_of}
 use denote.Triple.Clauses.{at_exit}
 use Rattle.real.proofs.Only.{Only}
