@@ -50,10 +50,7 @@ hex_is : (w k : ℕ) → w < 2 ^ 64 → IsDigitCount 16 16 w k → last_digits 1
 unfolding hex_text
 hex_is w k h f = let g : k ≤ 16 = fewest_most 16 16 w k 16 (lit< tt) (lit≤ tt) h f in ap (λ (x : ℕ). last_digits 16 x w) (let e : k ≡ 16 = omega (arith, f.0) in e)
 
--- ---- written: the digits of a number, and the 16 of a word
-pub decimal_written : (p q : Page) (l : List ℕ) (n k : ℕ) → q ≡ written p l → l ≡ last_digits 10 k n → IsDigitCount 10 1 n k → n < 2 ^ 64 → q ≡ written p (decimal_text n)
-decimal_written p q l n k g e f h = g ∙ ap (written p) (e ∙ decimal_is n k h f)
-
+-- ---- written: the 16 digits of a word
 pub hex_written : (p q : Page) (l : List ℕ) (w k : ℕ) → q ≡ written p l → l ≡ last_digits 16 k w → IsDigitCount 16 16 w k → w < 2 ^ 64 → q ≡ written p (hex_text w)
 hex_written p q l w k g e f h = g ∙ ap (written p) (e ∙ hex_is w k h f)
 

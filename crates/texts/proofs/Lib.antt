@@ -8,5 +8,6 @@ pub mod WholeNumbers
 -- writing
 pub mod Page
 pub mod Decimals
+pub mod Spelling
 -- what was read, written again
 pub mod DigitsBack

@@ -1,7 +1,7 @@
 // Writing: a lent buffer takes one text after the other, as far as they fit.
-ghost use Rattle.std.specs.Prelude.{◌≡◌, [], ◌∷◌};
+ghost use Rattle.std.specs.Prelude.{◌≡◌, [], ◌∷◌, length};
 ghost use Rattle.texts.specs.Page.{page, page_of, Puts, Fitting};
-ghost use Rattle.texts.specs.Numbers.{decimal_text, hex_text};
+ghost use Rattle.texts.specs.Numbers.{decimal_text, hex_text, Spelled};
 
 // A lent buffer, and how many of its bytes are written: its page (specs/Page.antt). A full buffer takes no more.
 #[derive(Drop)]
@@ -15,6 +15,24 @@ fn fitting(size: usize, at: usize, count: usize) -> usize
     ensures { Fitting size at count result }
 {
     size.saturating_sub(at).min(count)
+}
+
+// The decimal digits of n at the end of the array, the last first, and where they begin.
+// A lent array does not tell a proof its length, so that is required.
+fn spell(n: u64, digits: &mut [u8; 20]) -> usize
+    requires { length digits.old ≡ 20 }
+    ensures { Spelled n digits.new result }
+{
+    let mut start = 19usize;
+    let mut rest = n;
+    // Kept: a loop, and no io::decimal: tried, and a written market text of n = 8 takes 1.51 of plain Rust's time, where the bar is 1.5 (docs/SPEED.md).
+    while 9 < rest {
+        digits[start] = b'0' + (rest % 10) as u8;
+        rest /= 10;
+        start -= 1;
+    }
+    digits[start] = b'0' + rest as u8;
+    start
 }
 
 impl<'a> Writer<'a> {
@@ -52,8 +70,8 @@ impl<'a> Writer<'a> {
         ensures { Puts self.old self.new (decimal_text n) }
     {
         let mut digits = [0u8; 20];
-        let count = io::decimal(n, &mut digits);
-        self.bytes(&digits[..count]);
+        let start = spell(n, &mut digits);
+        self.bytes(&digits[start..]);
     }
 
     // A word in 16 hex digits.
