@@ -60,10 +60,11 @@ pub fn call<R: Record>(
     )
     .ok_or(Refusal::WrongLength)?;
     let mut lent = [0.0; 3 * LARGEST_WIDTH];
-    words::read(records, &mut lent);
-    let x = R::read(&lent, 0);
-    let y = R::read(&lent, 1);
-    let z = R::read(&lent, 2);
+    let lent = &mut lent[..3 * R::width()];
+    words::read(records, lent);
+    let x = R::read(lent, 0);
+    let y = R::read(lent, 1);
+    let z = R::read(lent, 2);
     run(call, x, y, z, out)
 }
 
@@ -78,9 +79,10 @@ pub fn operator<R: Record>(op: Binary, records: &[u64], out: &mut [u64]) -> Resu
         return Err(Refusal::WrongLength);
     }
     let mut lent = [0.0; 2 * LARGEST_WIDTH];
-    words::read(records, &mut lent);
-    let x = R::read(&lent, 0);
-    let y = R::read(&lent, 1);
+    let lent = &mut lent[..2 * R::width()];
+    words::read(records, lent);
+    let x = R::read(lent, 0);
+    let y = R::read(lent, 1);
     put(binary(op, x, y), out);
     Ok(())
 }

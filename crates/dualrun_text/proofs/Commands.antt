@@ -102,9 +102,9 @@ all_records : (l : List Float) (k : ℕ) → length l ≡ k * 2 → record_lines
 all_records l k e = ap (record_lines l) (let h : length l / 2 ≡ k = omega arith in h)
 
 module _ (n : ℕ) (factors : List Float) (order : List ℕ) (answer : Result ℕ LuRefusal) where
-  pub lu_refused : (u v : Writer) (e : LuRefusal) (number column : ℕ) → answer ≡ Err e → number ≡ number_of (lu_outcome (Err e)) → column ≡ lu_column (Err e)
+  pub lu_refused : (u v : Writer) (e : LuRefusal) (number column : ℕ) → answer ≡ Err e → number ≡ number_of (lu_outcome answer) → column ≡ lu_column answer
       → Puts u v (pair_line number column) → Puts u v (lu_lines n (lu_outcome answer) (lu_column answer) factors order)
-  lu_refused u v e number column is f g h = puts_as h ((λ i. pair_line (f i) (g i)) ∙ printed e ∙ ap (λ (r : Result ℕ LuRefusal). lu_lines n (lu_outcome r) (lu_column r) factors order) (sym is))
+  lu_refused u v e number column is f g h = puts_as h ((λ i. pair_line ((f ∙ ap (λ (r : Result ℕ LuRefusal). number_of (lu_outcome r)) is) i) ((g ∙ ap lu_column is) i)) ∙ printed e ∙ ap (λ (r : Result ℕ LuRefusal). lu_lines n (lu_outcome r) (lu_column r) factors order) (sym is))
     where
       printed : (e : LuRefusal) → pair_line (number_of (lu_outcome (Err e))) (lu_column (Err e)) ≡ lu_lines n (lu_outcome (Err e)) (lu_column (Err e)) factors order
       printed (lu.Refused r) = refl

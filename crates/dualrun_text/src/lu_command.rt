@@ -30,7 +30,11 @@ fn lines(
             write::order(page, order);
             write::records(page, factors);
         }
-        Err(refusal) => write::pair(page, refusal.number() as usize, refusal.column()),
+        Err(_) => write::pair(
+            page,
+            matrices::lu_number(answer) as usize,
+            matrices::lu_column(answer),
+        ),
     }
 }
 

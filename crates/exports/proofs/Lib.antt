@@ -3,3 +3,6 @@
 pub mod OneAnswer
 -- calls of the Matrix Market exports, one and two
 mod MarketCalls
+-- LU, solve, determinant and inverse at the two records that are exported
+pub mod AtDual
+pub mod AtHyperDual

@@ -19,7 +19,7 @@ pub(crate) fn lu_number(answer: Result<usize, LuRefusal>, swaps_or_column: &mut 
 {
     match answer {
         Ok(swaps) => *swaps_or_column = swaps,
-        Err(LuRefusal::Singular { column }) => *swaps_or_column = column,
+        Err(LuRefusal::Singular { column: _ }) => *swaps_or_column = matrices::lu_column(answer),
         Err(LuRefusal::Refused(_)) => {}
     }
     matrices::lu_number(answer)

@@ -60,7 +60,7 @@ pub(crate) fn prepare(work: &mut Work, bw: &mut [f64], a: &[f64])
     ensures fresh { work.new.rotations ≡ 0 }
     ensures run_after { run_of work.new bw.new 0 ≡ start dual_algebra work.old.n (dual_records a.now) }
 {
-    work.a.copy_from_slice(a);
+    floats::copy(a, work.a);
     identity(work.n, work.v);
     work.d.fill(0.0);
     work.zw.fill(0.0);

@@ -98,7 +98,7 @@ fn close_sweep(n: usize, d: &mut [f64], zw: &mut [f64], bw: &mut [f64])
     ensures zw_after { dual_records zw.new ≡ replicate n (zero_of dual_algebra) }
 {
     add_all(n, zw, bw);
-    d.copy_from_slice(bw);
+    floats::copy(bw, d);
     zw.fill(0.0);
 }
 

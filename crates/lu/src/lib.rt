@@ -28,7 +28,7 @@ fn factor<R: Record>(
     requires order_len { length order.old ≡ n }
     ensures { lu_answered (lu_outcome result) (lu_column result) factors.new order.new ≡ lu_finish R.algebra R.layout n (lu_of R.algebra n (decode R.layout a.now)) }
 {
-    factors.copy_from_slice(a);
+    floats::copy(a, factors);
     matrices::order::count_up(order);
     match columns::run_columns::<R>(n, factors, order) {
         Ok(swaps) => Ok(swaps),

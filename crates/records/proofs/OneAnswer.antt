@@ -86,6 +86,10 @@ module _ (T : RattleType) (l : param.Laws T) (c : param.IsCopy T) (G : declared.
   pub nderiv_only : Only 1 (own.nderiv.Kinds.ps T l c) (own.nderiv.Kinds.r T l c) (own.nderiv.Reads.Pre T l c G d C e) (own.nderiv.Reads.Post T l c G d C e)
   nderiv_only κs a x y v w h p q = (p ∙ sym q, refl)
 
+  -- what a request for it runs, and the method too
+  pub run_sph_j1_series_only : Only 1 (own.functions.sph_j1_series.Kinds.ps T l c) (own.functions.sph_j1_series.Kinds.r T l c) (own.functions.sph_j1_series.Reads.Pre T l c G d C e) (own.functions.sph_j1_series.Reads.Post T l c G d C e)
+  run_sph_j1_series_only κs a x y v w h p q = (p ∙ sym q, refl)
+
   -- H stands for the members of `ThirdDerivative`, which has none of its own
   module _ (H : declared_third.Ghosts T.Denot) (f : Dict) where
     pub sph_j1_series_only : Only 1 (third.sph_j1_series.Kinds.ps T l c) (third.sph_j1_series.Kinds.r T l c) (third.sph_j1_series.Reads.Pre T l c H f G d C e) (third.sph_j1_series.Reads.Post T l c H f G d C e)

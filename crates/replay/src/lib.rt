@@ -9,14 +9,14 @@ pub mod same;
 pub mod tally;
 mod words;
 
-ghost use Rattle.std.specs.Prelude.{◌≤◌, length, IfOk};
+ghost use Rattle.std.specs.Prelude.{◌≡◌, ◌≤◌, length, IfOk};
 
 use std::io::Read;
 use words::Seen;
 pub use words::Word;
 
 // How many bytes are read of a file at once.
-const BUFFER: usize = 4096;
+pub const BUFFER: usize = 4096;
 
 // What was asked for is not there: the file ends before it does, or has another word in its place.
 #[derive(Clone, Copy, Debug, PartialEq, Eq)]
@@ -32,7 +32,10 @@ pub struct Reader<R> {
 }
 
 impl<R: Read> Reader<R> {
-    pub fn new(source: R) -> Reader<R> {
+    // Nothing read yet.
+    pub fn new(source: R) -> Reader<R>
+        ensures { (result.at ≡ 0) × (result.end ≡ 0) }
+    {
         Reader {
             source,
             buffer: [0; BUFFER],

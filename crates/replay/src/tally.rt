@@ -128,6 +128,18 @@ impl<R: Read> Reader<R> {
     }
 }
 
+// The cases of a file that is open, each read and compared by what is passed, reported by a name.
+// Kept: not inlined, so that the buffer of one file at a time lies on the stack, and none while a file is opened.
+#[inline(never)]
+fn replay_opened<F: FnMut(&mut Reader<File>) -> Result<bool, Cut>>(file: File, name: &str, case: F)
+    requires { F.IsAlwaysCallable case }
+{
+    let mut reader = Reader::new(file);
+    let mut run = reader.begin();
+    reader.cases(&mut run, case);
+    reader.end(run).report(name);
+}
+
 // Replays a file whose cases are each read and compared by what is passed, and reports it by a name.
 pub fn replay_file<F: FnMut(&mut Reader<File>) -> Result<bool, Cut>>(
     rt: &HostRuntime,
@@ -137,9 +149,7 @@ pub fn replay_file<F: FnMut(&mut Reader<File>) -> Result<bool, Cut>>(
 ) -> std::io::Result<()>
     requires { F.IsAlwaysCallable case }
 {
-    let mut reader = Reader::new(File::open(rt, path)?);
-    let mut run = reader.begin();
-    reader.cases(&mut run, case);
-    reader.end(run).report(name);
+    let file = File::open(rt, path)?;
+    replay_opened(file, name, case);
     Ok(())
 }

@@ -1,11 +1,13 @@
 // Replays the recorded answers of Jacobi over `Dual`: jacobi.txt. A case is run as the file has it and again with (NaN, 42) below the diagonal; both
 // runs are to give the file's answer.
-// Kept: n within the limit is what `read_head` answers, and is asked by `Room::run` alone: a type of it would be taken apart at once.
 
 #![tactic(auto)]
 
 ghost use Rattle.std.specs.Prelude.{◌≡◌, ◌≤◌, ◌&&◌, IfOk};
 ghost use Rattle.refusals.specs.Largest as largest;
+ghost use Rattle.algebra.specs.Outcome.{outcome};
+ghost use Rattle.dual.specs.Rules.{dual_algebra, dual_layout};
+ghost use Rattle.jacobi.specs.Entry.{jacobi_answered, jacobi_left};
 ghost use Rattle.replay_jacobi.specs.Runs.{spoiled_at, spoiled_of, same_ran};
 
 use refusals::Refusal;
@@ -14,6 +16,11 @@ use replay::{Cut, Reader, tally};
 use std::fs::File;
 
 const NAN: u64 = 0x7ff8_0000_0000_0000;
+
+// The floats of the largest row, and of the largest matrix: of records of two floats, as all cases here have.
+const MOST_IN_ROW: usize = refusals::LARGEST_N * 2;
+
+const MOST_FLOATS: usize = refusals::LARGEST_N * MOST_IN_ROW;
 
 // What a case begins with. Its numbers of rotations and whether the run settled are passed over: the port does not report them.
 #[derive(Clone, Copy)]
@@ -87,35 +94,21 @@ struct Ran<'a> {
     vectors: &'a [f64],
 }
 
-// Room for what a run leaves.
-#[derive(Clone, Copy)]
-struct Room {
-    values: [f64; replay_matrices::MOST_IN_ROW],
-    vectors: [f64; replay_matrices::MOST_FLOATS],
-}
-
-impl Room {
-    // Full of what must not stay.
-    fn full_of(x: f64) -> Room {
-        Room {
-            values: [x; replay_matrices::MOST_IN_ROW],
-            vectors: [x; replay_matrices::MOST_FLOATS],
-        }
-    }
-
-    // Runs a matrix of n by n.
-    fn run(&mut self, n: usize, a: &[f64], limit: usize) -> Ran<'_>
-        requires { n ≤ largest.n }
-    {
-        let Room { values, vectors } = self;
-        let values = &mut values[..replay_matrices::floats_in_row(n, 2)];
-        let vectors = &mut vectors[..replay_matrices::floats_in(n, 2)];
-        let answer = jacobi::jacobi_eigenvalue(n, a, limit, values, vectors);
-        Ran {
-            answer,
-            values,
-            vectors,
-        }
+// Runs a matrix of n by n, in lent buffers.
+fn run<'a>(
+    n: usize,
+    a: &[f64],
+    limit: usize,
+    values: &'a mut [f64],
+    vectors: &'a mut [f64],
+) -> Ran<'a>
+    ensures { jacobi_answered (outcome result.answer) result.values.now result.vectors.now ≡ jacobi_left dual_algebra dual_layout n a.now limit values.old vectors.old }
+{
+    let answer = jacobi::jacobi_eigenvalue(n, a, limit, values, vectors);
+    Ran {
+        answer,
+        values,
+        vectors,
     }
 }
 
@@ -142,13 +135,15 @@ fn same_runs(wanted: Recorded, first: Ran, again: Ran) -> bool
 fn case(reader: &mut Reader<File>) -> Result<bool, Cut> {
     let head = read_head(reader)?;
     let n = head.size;
-    let full = replay_matrices::floats_in(n, 2);
-    let row = replay_matrices::floats_in_row(n, 2);
-    let mut words = [7u64; replay_matrices::MOST_FLOATS];
-    let mut a = [7.0f64; replay_matrices::MOST_FLOATS];
-    let mut values = [7u64; replay_matrices::MOST_IN_ROW];
-    let mut room = Room::full_of(7.0);
-    let mut room_again = Room::full_of(5.0);
+    let row = n * 2;
+    let full = n * row;
+    let mut words = [7u64; MOST_FLOATS];
+    let mut a = [7.0f64; MOST_FLOATS];
+    let mut values = [7u64; MOST_IN_ROW];
+    let mut first_values = [7.0f64; MOST_IN_ROW];
+    let mut first_vectors = [7.0f64; MOST_FLOATS];
+    let mut values_again = [5.0f64; MOST_IN_ROW];
+    let mut vectors_again = [5.0f64; MOST_FLOATS];
     let words = &mut words[..full];
     let a = &mut a[..full];
     let values = &mut values[..row];
@@ -157,9 +152,11 @@ fn case(reader: &mut Reader<File>) -> Result<bool, Cut> {
     let eigenvalues = reader.read_words(16, values);
     let eigenvectors = reader.read_words(16, words);
     matrix.and(eigenvalues).and(eigenvectors)?;
-    let first = room.run(n, a, head.limit);
+    let first_values = &mut first_values[..row];
+    let first = run(n, a, head.limit, first_values, &mut first_vectors[..full]);
     spoil(n, a);
-    let again = room_again.run(n, a, head.limit);
+    let values_again = &mut values_again[..row];
+    let again = run(n, a, head.limit, values_again, &mut vectors_again[..full]);
     let wanted = Recorded {
         sweeps: head.sweeps,
         values,

@@ -8,40 +8,61 @@ mod reading;
 
 use dual::Dual;
 use hyperdual::HyperDual;
+use records::Record;
 use replay::tally::replay_file;
+use replay_matrices::MOST_FLOATS;
+
+// The files of LU, solve, determinant and inverse over one record. The rooms are one set for all of them, since each would keep its own on the stack.
+fn replay<R: Record>(
+    rt: &HostRuntime,
+    files: [&str; 4],
+    names: [&str; 4],
+    words: &mut [u64],
+    a: &mut [f64],
+    factors: &mut [f64],
+) -> std::io::Result<()> {
+    replay_file(rt, files[0], names[0], |reader| {
+        cases::lu::<R>(reader, words, a, factors)
+    })?;
+    replay_file(rt, files[1], names[1], |reader| {
+        cases::solve::<R>(reader, words, factors)
+    })?;
+    replay_file(rt, files[2], names[2], |reader| {
+        cases::determinant::<R>(reader, words, factors)
+    })?;
+    replay_file(rt, files[3], names[3], |reader| {
+        cases::inverse::<R>(reader, words, a, factors)
+    })
+}
 
 fn main(rt: HostRuntime) -> std::io::Result<()> {
-    replay_file(&rt, "lu.txt", "lu", cases::lu::<Dual>)?;
-    replay_file(&rt, "solve.txt", "solve", cases::solve::<Dual>)?;
-    replay_file(
+    let mut words = [0u64; MOST_FLOATS];
+    let mut a = [0.0f64; MOST_FLOATS];
+    let mut factors = [0.0f64; MOST_FLOATS];
+    replay::<Dual>(
         &rt,
-        "determinant.txt",
-        "determinant",
-        cases::determinant::<Dual>,
+        ["lu.txt", "solve.txt", "determinant.txt", "inverse.txt"],
+        ["lu", "solve", "determinant", "inverse"],
+        &mut words,
+        &mut a,
+        &mut factors,
     )?;
-    replay_file(&rt, "inverse.txt", "inverse", cases::inverse::<Dual>)?;
-    replay_file(
+    replay::<HyperDual>(
         &rt,
-        "lu-hyperdual.txt",
-        "hyperdual lu",
-        cases::lu::<HyperDual>,
-    )?;
-    replay_file(
-        &rt,
-        "solve-hyperdual.txt",
-        "hyperdual solve",
-        cases::solve::<HyperDual>,
-    )?;
-    replay_file(
-        &rt,
-        "determinant-hyperdual.txt",
-        "hyperdual determinant",
-        cases::determinant::<HyperDual>,
-    )?;
-    replay_file(
-        &rt,
-        "inverse-hyperdual.txt",
-        "hyperdual inverse",
-        cases::inverse::<HyperDual>,
+        [
+            "lu-hyperdual.txt",
+            "solve-hyperdual.txt",
+            "determinant-hyperdual.txt",
+            "inverse-hyperdual.txt",
+        ],
+        [
+            "hyperdual lu",
+            "hyperdual solve",
+            "hyperdual determinant",
+            "hyperdual inverse",
+        ],
+        &mut words,
+        &mut a,
+        &mut factors,
     )
 }

@@ -1,11 +1,16 @@
 -- What the reader and the writer answer and leave, compared with the numbers, words and bytes of a file. Definitions only.
-use Rattle.std.specs.Prelude.{ℕ, Bool, true, cond, ◌&&◌, List, eqb, length, replicate, take, drop, Float}
+use Rattle.std.specs.Prelude.{ℕ, Bool, true, cond, ◌&&◌, List, eqb, length, replicate, take, drop, Float, Result, Ok, Err}
 use Rattle.algebra.specs.Outcome.{Outcome, value, refused, number_of}
 use Rattle.replay.specs.Same.{same_numbers}
 use Rattle.replay_matrices.specs.Cases.{same_floats}
+use Rattle.replay.specs.declared.Cut.{Cut}
 use Rattle.replay_market.specs.declared.compare.Recorded.{Recorded}
 use Rattle.replay_market.specs.declared.over.Width.{Width}
 use Rattle.replay_market.specs.declared.over.Width.TheVariants.{Dual, HyperDual}
+
+-- the records that have so many floats: of two numbers alone
+abbrev pub width_at : ℕ → Result Width Cut
+width_at floats = cond (eqb floats 2) (Ok Dual) (cond (eqb floats 4) (Ok HyperDual) (Err (record {})))
 
 -- the floats of a record
 abbrev pub width_of : Width → ℕ

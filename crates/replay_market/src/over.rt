@@ -5,7 +5,7 @@ ghost use Rattle.algebra.specs.Outcome.{outcome};
 ghost use Rattle.market.specs.Answers.{answered};
 ghost use Rattle.market.specs.Read.{read_left};
 ghost use Rattle.market.specs.Write.{write_left};
-ghost use Rattle.replay_market.specs.Cases.{width_of};
+ghost use Rattle.replay_market.specs.Cases.{width_at, width_of};
 
 use dual::Dual;
 use hyperdual::HyperDual;
@@ -21,6 +21,8 @@ pub(crate) enum Width {
 
 impl TryFrom<u64> for Width {
     type Error = Cut;
+
+    ghost try_from_gives = { λ floats r. r ≡ width_at floats };
 
     fn try_from(floats: u64) -> Result<Width, Cut> {
         match floats {

@@ -1,6 +1,6 @@
 // A case, read.
 // Kept: the number of parts, as in lib.rt; values beside an Err. Of a case that is cut all is read, with 0 for each word that is not there, since what the program prints of it may not change (`print::case` of `replay_records`).
-ghost use Rattle.std.specs.Prelude.{◌≡◌, ◌≤◌, ◌<◌, length};
+ghost use Rattle.std.specs.Prelude.{◌≡◌, ◌≤◌, ◌<◌, min, length};
 ghost use Rattle.refusals.specs.Largest as largest;
 ghost use Rattle.replay_table.specs.Table.{most_words, most_answer};
 
@@ -54,6 +54,13 @@ fn read_records<R: Read>(
     (at, whole)
 }
 
+// How many floats are lent: two at most.
+fn float_count(floats: u64) -> usize
+    ensures { (result ≡ min floats 2) × (result ≤ 2) }
+{
+    floats.min(2) as usize
+}
+
 // Reads a case of a record with so many parts, in lent buffers.
 pub fn read_case<'a, R: Read>(
     reader: &mut Reader<R>,
@@ -79,7 +86,7 @@ pub fn read_case<'a, R: Read>(
         0 => (0, Ok(())),
         _ => read_word(reader, 16),
     };
-    let outside = shape.floats.min(2) as usize;
+    let outside = float_count(shape.floats);
     let floated = reader.read_words(16, &mut floats[..outside]);
     let (number, numbered) = match shape.records {
         Some(_) => read_word(reader, 2),

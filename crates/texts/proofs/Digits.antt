@@ -1,14 +1,15 @@
 -- Digits read one after the other. Assumes nothing.
 use Prim.Native.Nat.{ℕ, zero, suc, ◌+◌, ◌-◌, ◌*◌, ◌^◌, ◌<◌, ◌≤◌}
 use mathlib.Core.Path.{◌≡◌, refl, sym, ap, ◌∙◌}
-use mathlib.Core.Bool.{Bool, true, false, cond}
+use mathlib.Core.Bool.{Bool, true, false, cond, ◌&&◌}
 use mathlib.Core.List.{List}
 use native.Mathlib.Nat.{pow-suc, pow-le-pow_right, mul-le-mul_left, mul-le-mul_right}
 use native.Mathlib.Omega.{arith}
-use lib.Dec.{ltb, lit<}
+use lib.Dec.{leb, ltb, lit<}
 use lib.ListN.{length, get_or-eq_default}
-use borrow.Author.Tests.{le-leb, lt-leb, lt-ltb, le-ltb, ltb-true, ltb-false}
-use Rattle.std.specs.Prelude.{Some, None}
+use borrow.Author.Tests.{le-leb, lt-leb, lt-ltb, le-ltb, leb-true, ltb-true, ltb-false}
+use Rattle.std.specs.Prelude.{Option, Some, None}
+use Rattle.std.specs.Option.{unwrap_or}
 use Rattle.texts.specs.declared.Scan.{Scan}
 use Rattle.texts.specs.Bytes.{digit_zero, digit_nine, letter_a, letter_f}
 use Rattle.texts.specs.Digits.{byte_at, is_digit, digit_value, digit_of, digit_run, number_at, scan_of}
@@ -37,6 +38,15 @@ none_by base b false e h = ltb-false (digit_value b) base e
 
 pub digit_was_none : (base b : ℕ) → None ≡ digit_of base b → base ≤ digit_value b
 digit_was_none base b h = none_by base b (is_digit base b) refl h
+
+-- a digit of base 16 with the base in place of none: below the base it is the digit, else there is none of the base
+pub digit_told : (base b d : ℕ) (o : Option ℕ) → o ≡ digit_of 16 b → d ≡ unwrap_or o base → d < base → Some d ≡ digit_of base b
+digit_told base b d (Some v) e f h = digit_is base b d (f ∙ (digit_was 16 b v e).0) h
+digit_told base b d None e f h = absurd (omega arith)
+
+pub digit_untold : (base b d : ℕ) (o : Option ℕ) → o ≡ digit_of 16 b → d ≡ unwrap_or o base → base ≤ 16 → base ≤ d → None ≡ digit_of base b
+digit_untold base b d (Some v) e f g h = digit_none base b d (f ∙ (digit_was 16 b v e).0) h
+digit_untold base b d None e f g h = let least = digit_was_none 16 b e in digit_none base b (digit_value b) refl (omega arith)
 
 -- a number of k digits with one digit more
 grown : (v base d k : ℕ) → v < 16 ^ k → base ≤ 16 → d < base → k < 16 → (v * base + d < 2 ^ 64) × (v * base + d < 16 ^ (k + 1))
@@ -180,3 +190,23 @@ decimal_digit b e = under (ltb b digit_zero) refl
     under : (t : Bool) → ltb b digit_zero ≡ t → (digit_zero ≤ b) × (b - digit_zero ≡ digit_value b)
     under true q = absurd (far 16 (value_under_digits b (ltb-true b digit_zero q)) (omega arith))
     under false q = among (ltb digit_nine b) refl (ltb-false b digit_zero q)
+
+-- ---- a decimal digit, by the one test of the range
+in_both : (s t : Bool) → true ≡ (s && t) → t ≡ true
+in_both true t e = sym e
+in_both false t e = absurd (cc)
+
+pub decimal_is : (b : ℕ) → true ≡ (leb digit_zero b && leb b digit_nine) → Some (b - digit_zero) ≡ digit_of 10 b
+unfolding digit_value
+decimal_is b e =
+    let h : b ≤ digit_nine = leb-true b digit_nine (in_both (leb digit_zero b) (leb b digit_nine) e) in
+    digit_is 10 b (b - digit_zero) (rw (sym e)) (omega arith)
+
+at_least_ten : (b x : ℕ) (t u : Bool) → false ≡ t → 10 ≤ cond t x (cond u (b - letter_a + 10) 16)
+at_least_ten b x true u e = absurd (cc)
+at_least_ten b x false true e = omega arith
+at_least_ten b x false false e = omega arith
+
+pub decimal_none : (b : ℕ) → false ≡ (leb digit_zero b && leb b digit_nine) → None ≡ digit_of 10 b
+unfolding digit_value
+decimal_none b e = digit_none 10 b (digit_value b) refl (at_least_ten b (b - digit_zero) (leb digit_zero b && leb b digit_nine) (leb letter_a b && leb b letter_f) e)

@@ -24,14 +24,6 @@ pub fn digit_value(b: u8) -> Option<u64>
     }
 }
 
-// The value of a digit of the base.
-pub(crate) fn digit(base: u64, b: u8) -> Option<u64>
-    requires { base ≤ 16 }
-    ensures { result ≡ digit_of base b }
-{
-    digit_value(b).filter(|value| *value < base)
-}
-
 // The digits of the base from p on, at most so many.
 pub fn scan(text: &[u8], p: usize, base: u64, most: usize) -> Scan
     requires { (p < 2 ^ 63) × (base ≤ 16) × (most ≤ 16) }
@@ -40,9 +32,11 @@ pub fn scan(text: &[u8], p: usize, base: u64, most: usize) -> Scan
     let mut value = 0;
     // Kept: over places and not over items, since the text may end before so many digits: the byte past its end is no digit.
     for k in 0..most {
-        let Some(digit) = digit(base, byte_at(text, p + k)) else {
+        // Kept: one test for a byte that is no digit and for a digit of a larger base; an Option of a digit of the base would be tested twice.
+        let digit = digit_value(byte_at(text, p + k)).unwrap_or(base);
+        if base <= digit {
             return Scan { value, digits: k };
-        };
+        }
         value = value * base + digit;
     }
     Scan {

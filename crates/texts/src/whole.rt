@@ -4,8 +4,6 @@ ghost use Rattle.texts.specs.Digits.{byte_at};
 ghost use Rattle.texts.specs.Whole as Whole·specs;
 ghost use Rattle.texts.specs.Whole.{worth, Grown, Found, AllDigits};
 
-use super::read;
-
 // The digits that a text begins with, the text after them, and what stands for their number.
 #[derive(Clone, Copy)]
 pub struct Whole<'a> {
@@ -38,21 +36,21 @@ fn grown(v: u64, digit: u64, most: u64) -> u64
     v
 }
 
-// The decimal digits that a text begins with, all of them.
+// The decimal digits that a text begins with, all of them. By one test for each byte: most of the time that a file takes goes here.
 pub fn scan(text: &[u8], most: u64) -> Whole<'_>
     requires { most < 2 ^ 60 }
     ensures { Found most text.now result }
 {
     let mut value = 0;
     for (k, b) in text.iter().enumerate() {
-        let Some(digit) = read::digit(10, *b) else {
+        if !b.is_ascii_digit() {
             return Whole {
                 value,
                 digits: &text[..k],
                 rest: &text[k..],
             };
-        };
-        value = grown(value, digit, most);
+        }
+        value = grown(value, (*b - b'0') as u64, most);
     }
     Whole {
         value,

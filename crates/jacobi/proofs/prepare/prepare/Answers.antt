@@ -11,8 +11,8 @@ returns-clause-run_after c =
     let p = c.put_diagonal.ensures in
     let w = c.args.work.now in
     start_by dual_laws _ _ _ _ _ _ _
-    (p.others.a ∙ c.copy_from_slice.ensures.after)
+    (p.others.a ∙ c.copy.ensures)
     (ap dual_records p.others.v ∙ c.identity.ensures.v_after)
-    (diagonal_by dual_laws _ _ _ _ _ w.values.full (c.fill.ensures.after (λ y e. e)) (rw c.copy_from_slice.ensures.after at p.d_after))
-    (diagonal_by dual_laws _ _ _ _ _ c.requires.sums.full (c.fill-3.ensures.after (λ y e. e)) (rw c.copy_from_slice.ensures.after at p.bw_after))
+    (diagonal_by dual_laws _ _ _ _ _ w.values.full (c.fill.ensures.after (λ y e. e)) (rw c.copy.ensures at p.d_after))
+    (diagonal_by dual_laws _ _ _ _ _ c.requires.sums.full (c.fill-3.ensures.after (λ y e. e)) (rw c.copy.ensures at p.bw_after))
     (ap dual_records p.others.zw ∙ blank dual_laws _ _ _ w.gains.full (c.fill-2.ensures.after (λ y e. e)))
