@@ -1,4 +1,5 @@
 // Counting the cases of a file, and reporting the count.
+// Kept: that a closure may be called is asked beside each that is taken: a clause of the closure, which no type holds.
 ghost use Rattle.std.specs.Prelude.{◌≡◌, ◌<◌, false, Result};
 ghost use Rattle.replay.specs.Tally.{tally, counted_of, begun_of, after_of};
 

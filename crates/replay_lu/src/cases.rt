@@ -5,11 +5,11 @@ ghost use Rattle.algebra.specs.Outcome.{map_outcome};
 ghost use Rattle.matrices.specs.Entries.{determinant_left};
 ghost use Rattle.replay_matrices.specs.Cases.{same_outcome};
 
-use crate::reading;
 use crate::reading::Entry;
+use crate::{MOST_IN_ROW, reading};
 use records::Record;
 use replay::{Cut, Reader};
-use replay_matrices::{MOST_IN_ROW, Numbers};
+use replay_matrices::Numbers;
 use std::fs::File;
 
 pub(crate) fn lu<R: Record>(

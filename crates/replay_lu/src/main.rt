@@ -10,7 +10,13 @@ use dual::Dual;
 use hyperdual::HyperDual;
 use records::Record;
 use replay::tally::replay_file;
-use replay_matrices::MOST_FLOATS;
+
+// The floats of the widest record whose matrices the files have, and of the largest row and matrix of it.
+const WIDEST: usize = 4;
+
+const MOST_IN_ROW: usize = refusals::LARGEST_N * WIDEST;
+
+const MOST_FLOATS: usize = refusals::LARGEST_N * MOST_IN_ROW;
 
 // The files of LU, solve, determinant and inverse over one record. The rooms are one set for all of them, since each would keep its own on the stack.
 fn replay<R: Record>(

@@ -1,4 +1,4 @@
--- What matrices of any record have at most. Definitions only.
+-- What a program that replays matrices has room for. Definitions only.
 use Rattle.std.specs.Prelude.{ℕ, ◌*◌}
 use Rattle.refusals.specs.Largest as largest
 

@@ -22,8 +22,8 @@ pub struct Numbers {
     pub swaps_or_column: u64,
 }
 
-// The floats of the widest record that matrices are recorded of, and of the largest matrix and row of it.
-pub const WIDEST: usize = 4;
+// The floats of the widest record, and of the largest matrix and row of it.
+pub const WIDEST: usize = refusals::LARGEST_WIDTH;
 
 pub const MOST_FLOATS: usize = refusals::LARGEST_N * MOST_IN_ROW;
 
@@ -58,7 +58,7 @@ pub fn order_of(words: &[u64], order: &mut [usize])
 pub fn same_record<R: Record>(words: &[u64], x: R) -> bool
     ensures { result ≡ same_floats words.now (R.layout.parts x) }
 {
-    let mut parts = [0.0; refusals::LARGEST_WIDTH];
+    let mut parts = [0.0; WIDEST];
     let parts = &mut parts[..R::width()];
     R::write(parts, 0, x);
     same_words(words, parts)
