@@ -13,6 +13,7 @@ use borrow.Author.Tests.{eq-eqb, ne_eqb}
 use Rattle.std.specs.Prelude.{Option, None, Some}
 use Rattle.real.specs.Operations as float
 use Rattle.refusals.specs.Number as refusal
+use Rattle.refusals.specs.Largest as largest
 use Rattle.algebra.specs.Algebra.{zero_of}
 use Rattle.algebra.specs.Flat.{decode, sum_of, product_of}
 use Rattle.algebra.specs.Outcome.{Outcome, value, map_outcome}
@@ -62,7 +63,7 @@ module _ {R : Type 0} (K : Kind R) (Q : Laws K.algebra K.layout) (op : Binary) (
   pub operated : (x y r : R) (left : ℕ × List ℕ) (l : List Float) (count : ℕ) → left ≡ leaves (map_outcome words_of (map_outcome K.layout.parts (value r))) out
       → r ≡ binary_of K op x y → length records ≡ 2 * K.layout.width → length out ≡ K.layout.width
       → x ≡ get_or (decode K.layout l) 0 (zero_of K.algebra) → y ≡ get_or (decode K.layout l) 1 (zero_of K.algebra)
-      → l ≡ first_floats records count → length l ≡ 2 * K.layout.width → left ≡ operated_of K op records out
+      → l ≡ first_floats records count → length l ≡ 2 * largest.width → left ≡ operated_of K op records out
   unfolding operated_of called_of call_of fitting
   operated x y r left l count h g two one e f first size =
       let narrow = Q.narrow in

@@ -79,10 +79,9 @@ pub fn operator<R: Record>(op: Binary, records: &[u64], out: &mut [u64]) -> Resu
         return Err(Refusal::WrongLength);
     }
     let mut lent = [0.0; 2 * LARGEST_WIDTH];
-    let lent = &mut lent[..2 * R::width()];
-    words::read(records, lent);
-    let x = R::read(lent, 0);
-    let y = R::read(lent, 1);
+    words::read(records, &mut lent);
+    let x = R::read(&lent, 0);
+    let y = R::read(&lent, 1);
     put(binary(op, x, y), out);
     Ok(())
 }
